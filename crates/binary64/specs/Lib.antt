@@ -1,0 +1,4 @@
+pub mod Arith
+pub mod Constants
+pub mod Number
+pub mod Root
