@@ -1,4 +1,5 @@
 pub mod Arith
 pub mod Constants
 pub mod Number
+pub mod NumberLaws
 pub mod Root
