@@ -1,5 +1,5 @@
 -- `absOf` by comparison with +0: below 0 it is the negation, at either zero it is +0, and elsewhere the number itself. Assumes nothing.
-use mathlib.Core.Path.{_≡_, refl, sym, ap, _∙_}
+use mathlib.Core.Path.{_≡_, refl, sym, ap}
 use Prim.Native.Nat.{ℕ, zero, suc, _+_, _*_, _^_, _<_}
 use native.Mathlib.Nat.{mul-one, one-mul, zero-mul, zero-lt-suc, mul-pos, pow-succ'}
 use native.Mathlib.Omega.{arith}

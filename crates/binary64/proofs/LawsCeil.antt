@@ -2,7 +2,7 @@
 -- The whole part of a double is a double: it has no fraction to lose where the exponent is not negative, and at most 53 digits where it is. Assumes nothing.
 use mathlib.Core.Path.{_≡_, refl, sym, ap, _∙_, subst}
 use Prim.Native.Nat.{ℕ, zero, suc, _+_, _-_, _*_, _/_, _%_, _^_, _≤_, _<_, min}
-use native.Mathlib.Nat.{mul-one, one-mul, zero-mul, mul-assoc, mul-right-comm, mul-pos, zero-lt-suc, le-refl, le-of-lt, le-trans, lt-of-le-of-lt, lt-of-lt-of-le, div-one, div-le-self, div-eq-of-lt, div-eq-of-lt-le, div-lt-iff-lt-mul, le-div-iff-mul-le, div-mul-le-self, lt-div-mul-add, lt-of-mul-lt-mul-right, le-of-mul-le-mul-right, add-mul}
+use native.Mathlib.Nat.{mul-one, zero-mul, mul-assoc, mul-right-comm, zero-lt-suc, le-trans, lt-of-le-of-lt, lt-of-lt-of-le, div-one, div-le-self, div-eq-of-lt, div-eq-of-lt-le, div-lt-iff-lt-mul, le-div-iff-mul-le, div-mul-le-self, lt-div-mul-add, lt-of-mul-lt-mul-right, le-of-mul-le-mul-right, add-mul}
 use native.Mathlib.Omega.{arith}
 use mathlib.Core.Bool.{Bool, true, false, true≢false, false≢true, _&&_}
 use lib.Dec.{T, ltb, leb, eqb, ltb→lt, lt→ltb, lit≤, lit<}
@@ -10,7 +10,7 @@ use borrow.Author.Tests.{ltb-true, ltb-false}
 use lib.IntN.{ℤ, pos, negsuc}
 use lib.Pow.{pow-add, shl-lt}
 use lib.Ieee.{Float, nan, inf, fin, binary64, fits, up, down, lt, ofBits, ofInt, round, toUnsigned}
-use lib.Ieee.Fits.{up-pos, down-pos, and-l, and-r}
+use lib.Ieee.Fits.{down-pos, and-l, and-r}
 use lib.Ieee.Exact.{HasValue, round-exact}
 use lib.Ieee.Back.{round-whole}
 use Rattle.binary64.specs.Number.{quotientUp, ceilCount}

@@ -1,13 +1,12 @@
 -- Laws of the stand-ins: each gives a binary64 number where it is given such numbers, and a count fits 64 bits. Assumes nothing.
-use Prim.Native.Nat.{ℕ, zero, suc, _-_, _^_, _≤_, _<_, min}
+use Prim.Native.Nat.{zero, suc, _-_, _^_, _≤_, _<_}
 use native.Mathlib.Omega.{arith}
 use mathlib.Core.Bool.{Bool, true, false}
 use lib.Dec.{T}
-use lib.IntN.{ℤ}
-use lib.Ieee.{Float, nan, inf, fin, Format, binary64, fits, lt, up, down}
+use lib.Ieee.{Float, nan, inf, fin, Format, binary64, fits, lt}
 use lib.Ieee.Bits.{ofBits-fits}
 use Rattle.binary64.specs.Constants.{plusZero, one}
-use Rattle.binary64.specs.Number.{pick, absOf, clampOf, atLeast, quotientUp, ceilCount}
+use Rattle.binary64.specs.Number.{pick, absOf, clampOf, atLeast, ceilCount}
 
 pub pick-fits : (f : Format) (t : Bool) (x y : Float) → T (fits f x) → T (fits f y) → T (fits f (pick t x y))
 pick-fits f true x y a b = a

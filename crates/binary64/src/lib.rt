@@ -13,7 +13,7 @@ pub fn abs(x: f64) -> f64
         return -x;
     }
     if x == 0.0 {
-        return 0.0;
+        return 0.0; // for -0 too
     }
     x
 }
@@ -22,7 +22,7 @@ pub fn abs(x: f64) -> f64
 pub fn clamp(x: f64) -> f64
     ensures { λ r. ⌜ r ≡ clampOf x ⌝ }
 {
-    if x < 0.0 {
+    if x < 0.0 { // -0 is not below 0
         return 0.0;
     }
     if x > 1.0 {

@@ -1,5 +1,4 @@
 -- `Answers` by the length of the lent part. Assumes nothing.
-use mathlib.Core.Path.{refl}
 use mathlib.Core.List.{List}
 use Prim.Native.Nat.{ℕ, _≤_, _<_}
 use borrow.Author.Tests.{lt-ltb, le-ltb}

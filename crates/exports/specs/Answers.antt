@@ -2,13 +2,12 @@
 -- Definitions only. Assumes nothing.
 use mathlib.Core.Path.{_≡_}
 use Prim.Native.Nat.{ℕ}
-use mathlib.Core.Bool.{Bool, true, false}
+use mathlib.Core.Bool.{Bool}
 use mathlib.Core.List.{List}
 use lib.Dec.{ltb}
 use lib.ListN.{length, set}
 use lib.Ieee.{Float}
 use Rattle.binary64.specs.Number.{pick}
-use Rattle.plane.specs.declared.Point.{Point}
 use Rattle.plane.specs.declared.Hit.{Hit}
 use Rattle.plane.specs.declared.Hit.the-variants.{At, Nothing}
 use Rattle.plane.specs.declared.Weights.{Weights}

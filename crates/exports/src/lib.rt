@@ -3,6 +3,7 @@
 use plane::Hit;
 use plane::Point;
 ghost use mathlib.Core.Path.{_≡_};
+ghost use Rattle.binary64.specs.Root.{root};
 ghost use Rattle.binary64.specs.Number.{absOf, clampOf, atLeast, ceilCount};
 ghost use Rattle.plane.specs.Plane.{point, dotOf, lengthSquared, signOf, pointInTriangle, rayLineIntersection, barycentricWeights, interpolated};
 ghost use Rattle.exports.specs.Answers.{flag, hitNumber, hitPut, weightsPut, Answers};
@@ -166,4 +167,11 @@ pub extern "C" fn cintrok_interpolate(
     let vb = Point { x: bx, y: by };
     let vc = Point { x: cx, y: cy };
     plane::barycentric_interpolate(p, va, vb, vc, ua, ub, uc)
+}
+
+#[no_mangle]
+pub extern "C" fn cintrok_sqrt(x: f64) -> f64
+    ensures { λ r. ⌜ r ≡ root x ⌝ }
+{
+    binary64::root::sqrt(x)
 }

@@ -1,6 +1,6 @@
 -- The upper end of the projection's range as the code adds it up. Assumes nothing.
 use mathlib.Core.Path.{_≡_, refl}
-use lib.Ieee.{add, binary64, ofBits}
+use lib.Ieee.{add, ofBits}
 use Rattle.binary64.specs.Arith.{_⊕_}
 use Rattle.binary64.specs.Constants.{one, small, oneAndSmall}
 

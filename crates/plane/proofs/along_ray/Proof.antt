@@ -1,6 +1,5 @@
 -- `plane::along_ray` meets its contract: `alongRay` picks by the same comparison of t, and what `on_segment` ensures is the rest of it. Assumes nothing.
 use borrow.Author.Needs.{needs}
-use Rattle.plane.specs.Plane.{alongRay}
 use Rattle.plane.proofs.along_ray.Statement.{statement}
 use Rattle.plane.proofs.along_ray.Tie as tie
 

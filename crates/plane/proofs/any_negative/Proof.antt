@@ -1,5 +1,4 @@
 -- `plane::any_negative` meets its contract: each return follows the first test that settles the disjunction. Assumes nothing.
-use mathlib.Core.Bool.{_||_}
 use Rattle.plane.proofs.any_negative.Statement.{statement}
 use Rattle.plane.proofs.any_negative.Tie as tie
 

@@ -1,5 +1,4 @@
 -- `plane::any_positive` meets its contract: each return follows the first test that settles the disjunction. Assumes nothing.
-use mathlib.Core.Bool.{_||_}
 use Rattle.plane.proofs.any_positive.Statement.{statement}
 use Rattle.plane.proofs.any_positive.Tie as tie
 

@@ -1,5 +1,4 @@
 -- `plane::on_segment` meets its contract: both comparisons of the projection are those of `onSegment`. Assumes nothing.
-use Rattle.plane.specs.Plane.{onSegment}
 use borrow.Author.Needs.{needs}
 use Rattle.plane.proofs.Laws.{one-and-small}
 use Rattle.plane.proofs.on_segment.Statement.{statement}

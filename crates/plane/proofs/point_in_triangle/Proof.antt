@@ -1,5 +1,4 @@
 -- `plane::point_in_triangle` meets its contract: `pointInTriangle` of the signs and of what the two tests of them ensure, by cases on the first. Assumes nothing.
-use mathlib.Core.Bool.{not, _&&_}
 use Rattle.plane.specs.Plane.{pointInTriangle}
 use borrow.Author.Needs.{needs}
 use Rattle.plane.proofs.point_in_triangle.Statement.{statement}
