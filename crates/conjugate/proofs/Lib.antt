@@ -1,0 +1,3 @@
+pub mod LawsTriple
+pub mod LawsLoops
+pub mod LawsPass

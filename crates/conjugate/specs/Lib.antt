@@ -1,0 +1,4 @@
+pub mod Solver
+pub mod SolverLaws
+pub mod Placed
+pub mod PlacedLaws

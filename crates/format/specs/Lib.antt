@@ -1,0 +1,13 @@
+pub mod Bytes
+pub mod Place
+pub mod Content
+pub mod Refusal
+pub mod Sheet
+pub mod Range
+pub mod BytesLaws
+pub mod PlaceLaws
+pub mod RefusalLaws
+pub mod SettingLaws
+pub mod SectionLaws
+pub mod SheetLaws
+pub mod Theorems

@@ -1,0 +1,3 @@
+pub mod Gradient
+pub mod GradientLaws
+pub mod Work

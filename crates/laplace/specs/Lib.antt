@@ -1,0 +1,10 @@
+pub mod Mesh
+pub mod Assembly
+pub mod Matrix
+pub mod Element
+pub mod Laid
+pub mod Corners
+pub mod Placed
+pub mod Row
+pub mod Whole
+pub mod Right

@@ -1,0 +1,5 @@
+pub mod Mesh
+pub mod Element
+pub mod Pair
+pub mod Work
+pub mod WorkLaws

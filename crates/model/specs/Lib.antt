@@ -1,0 +1,10 @@
+pub mod Space
+pub mod Run
+pub mod Machine
+pub mod SolvedPlace
+pub mod Sized
+pub mod PassLaws
+pub mod SizeLaws
+pub mod RunLaws
+pub mod Shown
+pub mod Samples

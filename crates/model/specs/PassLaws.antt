@@ -1,0 +1,304 @@
+-- Laws of one pass: which one it is, and what each kind does to the counts, the ends and the triangle walked in. Assumes nothing.
+use Prim.Native.Nat.{ℕ, zero, suc, _+_, _-_, _*_, _≤_, _<_}
+use native.Mathlib.Omega.{arith}
+use native.Mathlib.Nat.{le-refl}
+use mathlib.Core.Path.{_≡_, refl, sym, ap}
+use mathlib.Core.Logic.{_≢_}
+use mathlib.Core.Bool.{Bool, true, false, not, _&&_, _||_}
+use mathlib.Core.List.{List, [], _∷_, _++_, append-nil}
+use mathlib.Core.Option.{Option, none, some}
+use lib.Dec.{eqb, leb, ltb}
+use lib.ListN.{length, length-append}
+use lib.Ieee.{Float}
+use borrow.Author.Tests.{eqb-true, eqb-false, leb-false, ltb-false, not-true, not-false}
+use Rattle.binary64.specs.Number.{pick}
+use Rattle.plane.specs.declared.Point.{Point}
+use Rattle.plane.specs.Plane.{pointInTriangle}
+use Rattle.mesh.specs.Mesh.{vertex, corner, neighbour, noNeighbour, onward, tagOf}
+use Rattle.mesh.specs.Element.{flat}
+use Rattle.conjugate.specs.Solver as Solver
+use Rattle.conjugate.specs.Solver.{Turn, halted, reached, moved}
+use Rattle.gradient.specs.Gradient.{gradients}
+use Rattle.pde.specs.declared.Start.{Start}
+use Rattle.pde.specs.declared.Walk.{Walk}
+use Rattle.pde.specs.declared.Beyond.{Beyond}
+use Rattle.pde.specs.declared.Crossing.{Crossing}
+use Rattle.pde.specs.Search.{firstOf}
+use Rattle.pde.specs.Start.{noEdge, inner, firstStart, orElse, containedIn, triangleContaining, innerEdge, innerEdgeOf, leastVertex, centroidWith, pickStart}
+use Rattle.pde.specs.Crossing.{crossing}
+use Rattle.pde.specs.Path.{pieces, closes, ended, gone, adds, walked}
+use Rattle.format.specs.Content.{Content, triangleCount, limitOf, toleranceOf}
+use Rattle.model.specs.Space.{roomOf, stepOf, factor}
+use Rattle.model.specs.Run.{State, Field, Trail, state, rule, matrixOf, solved, solving, givenStart, set-out, startFrom, starting, crossed, crossingPass, nextBy, nextOf, passBy, pass, finished}
+use Rattle.model.specs.SolvedPlace.{solvedPlace}
+
+-- ---- which pass is next
+
+-- whether the path has an end, as a number
+pub finished-end : (s : State) → finished s ≡ true → s .trail .walk .end ≢ 0
+finished-end s h = eqb-false (s .trail .walk .end) 0 (not-true (eqb (s .trail .walk .end) 0) h)
+
+pub unfinished-end : (s : State) → finished s ≡ false → s .trail .walk .end ≡ 0
+unfinished-end s h = eqb-true (s .trail .walk .end) 0 (not-false (eqb (s .trail .walk .end) 0) h)
+
+-- what holds after a pass, by the four kinds of pass
+pub pass-elim : (P : State → Type 0) (c : Content) (s : State)
+    → (finished s ≡ true → P s)
+    → (s .trail .walk .end ≡ 0 → s .field .end ≡ 0 → P (state (solving c (s .field)) (s .trail)))
+    → (s .trail .walk .end ≡ 0 → s .field .end ≢ 0 → s .trail .walk .points ≡ 0 → P (state (s .field) (starting c (s .field .solve .x))))
+    → (s .trail .walk .end ≡ 0 → s .field .end ≢ 0 → s .trail .walk .points ≢ 0 → P (state (s .field) (crossingPass c (s .field .solve .x) (s .trail))))
+    → P (pass c s)
+unfolding pass nextOf passBy
+pass-elim P c s over solve begin cross = go (eqb (s .trail .walk .end) 0) (eqb (s .field .end) 0) (eqb (s .trail .walk .points) 0) refl refl refl
+  where
+    go : (e f z : Bool) → eqb (s .trail .walk .end) 0 ≡ e → eqb (s .field .end) 0 ≡ f → eqb (s .trail .walk .points) 0 ≡ z → P (passBy (nextBy e f z) c s)
+    go false f z p q r = over (ap not p)
+    go true true z p q r = solve (eqb-true _ _ p) (eqb-true _ _ q)
+    go true false true p q r = begin (eqb-true _ _ p) (eqb-false _ _ q) (eqb-true _ _ r)
+    go true false false p q r = cross (eqb-true _ _ p) (eqb-false _ _ q) (eqb-false _ _ r)
+
+pub pass-over : (c : Content) (s : State) → finished s ≡ true → pass c s ≡ s
+unfolding pass nextOf passBy
+pass-over c s h = let e : eqb (s .trail .walk .end) 0 ≡ false = not-true (eqb (s .trail .walk .end) 0) h in rw e
+
+pub pass-solve : (c : Content) (s : State) → s .trail .walk .end ≡ 0 → s .field .end ≡ 0 → pass c s ≡ state (solving c (s .field)) (s .trail)
+pass-solve c s e f =
+    pass-elim (λ (t : State). t ≡ state (solving c (s .field)) (s .trail)) c s
+    (λ (h : finished s ≡ true). absurd (finished-end s h e))
+    (λ (h : s .trail .walk .end ≡ 0) (k : s .field .end ≡ 0). refl)
+    (λ (h : s .trail .walk .end ≡ 0) (k : s .field .end ≢ 0) (z : s .trail .walk .points ≡ 0). absurd (k f))
+    (λ (h : s .trail .walk .end ≡ 0) (k : s .field .end ≢ 0) (z : s .trail .walk .points ≢ 0). absurd (k f))
+
+pub pass-begin : (c : Content) (s : State) → s .trail .walk .end ≡ 0 → s .field .end ≢ 0 → s .trail .walk .points ≡ 0
+    → pass c s ≡ state (s .field) (starting c (s .field .solve .x))
+pass-begin c s e f n =
+    pass-elim (λ (t : State). t ≡ state (s .field) (starting c (s .field .solve .x))) c s
+    (λ (h : finished s ≡ true). absurd (finished-end s h e))
+    (λ (h : s .trail .walk .end ≡ 0) (k : s .field .end ≡ 0). absurd (f k))
+    (λ (h : s .trail .walk .end ≡ 0) (k : s .field .end ≢ 0) (z : s .trail .walk .points ≡ 0). refl)
+    (λ (h : s .trail .walk .end ≡ 0) (k : s .field .end ≢ 0) (z : s .trail .walk .points ≢ 0). absurd (z n))
+
+pub pass-cross : (c : Content) (s : State) → s .trail .walk .end ≡ 0 → s .field .end ≢ 0 → s .trail .walk .points ≢ 0
+    → pass c s ≡ state (s .field) (crossingPass c (s .field .solve .x) (s .trail))
+pass-cross c s e f n =
+    pass-elim (λ (t : State). t ≡ state (s .field) (crossingPass c (s .field .solve .x) (s .trail))) c s
+    (λ (h : finished s ≡ true). absurd (finished-end s h e))
+    (λ (h : s .trail .walk .end ≡ 0) (k : s .field .end ≡ 0). absurd (f k))
+    (λ (h : s .trail .walk .end ≡ 0) (k : s .field .end ≢ 0) (z : s .trail .walk .points ≡ 0). absurd (n z))
+    (λ (h : s .trail .walk .end ≡ 0) (k : s .field .end ≢ 0) (z : s .trail .walk .points ≢ 0). refl)
+
+-- ---- solving
+
+-- a pass of solving that has no end adds a norm, and stays below the limit
+solved-on : (limit : ℕ) (f : Field) (t : Turn) → solved limit f t .end ≡ 0 → (length (solved limit f t .norms) ≡ length (f .norms) + 1) × (length (f .norms) < limit)
+unfolding solved
+solved-on limit f halted h = absurd (omega arith)
+solved-on limit f (reached x r norm) h = absurd (omega arith)
+solved-on limit f (moved next norm) h = go (leb limit (length (f .norms))) refl h
+  where
+    go : (b : Bool) → leb limit (length (f .norms)) ≡ b → pick {A = ℕ} b 3 0 ≡ 0 → (length (f .norms ++ (norm ∷ [])) ≡ length (f .norms) + 1) × (length (f .norms) < limit)
+    go true e k = absurd (omega arith)
+    go false e k = (length-append (f .norms) (norm ∷ []), leb-false limit (length (f .norms)) e)
+
+pub solving-on : (c : Content) (f : Field) → solving c f .end ≡ 0 → (length (solving c f .norms) ≡ length (f .norms) + 1) × (length (f .norms) < limitOf c)
+unfolding solving
+solving-on c f h = solved-on (limitOf c) f (Solver.pass flat (matrixOf c) (toleranceOf c) (f .solve)) h
+
+-- one that has an end has it after as many passes as there were norms before it
+solved-off : (limit : ℕ) (f : Field) (t : Turn) → solved limit f t .end ≢ 0 → 0 < length (f .norms) → solvedPlace (solved limit f t) ≡ length (f .norms)
+unfolding solved
+solved-off limit f halted h k = omega arith
+solved-off limit f (reached x r norm) h k = omega (arith, length-append (f .norms) (norm ∷ []))
+solved-off limit f (moved next norm) h k = go (leb limit (length (f .norms))) h
+  where
+    go : (b : Bool) → pick {A = ℕ} b 3 0 ≢ 0 → length (f .norms ++ (norm ∷ [])) - 1 + pick (eqb (pick {A = ℕ} b 3 0) 2) 1 0 ≡ length (f .norms)
+    go true e = omega (arith, length-append (f .norms) (norm ∷ []))
+    go false e = absurd (e refl)
+
+pub solving-off : (c : Content) (f : Field) → solving c f .end ≢ 0 → 0 < length (f .norms) → solvedPlace (solving c f) ≡ length (f .norms)
+unfolding solving
+solving-off c f h k = solved-off (limitOf c) f (Solver.pass flat (matrixOf c) (toleranceOf c) (f .solve)) h k
+
+-- the norms after a pass of solving begin with those before it
+solved-norms : (limit : ℕ) (f : Field) (t : Turn) → (more : List Float) × (solved limit f t .norms ≡ f .norms ++ more)
+unfolding solved
+solved-norms limit f halted = ([], sym (append-nil (f .norms)))
+solved-norms limit f (reached x r norm) = (norm ∷ [], refl)
+solved-norms limit f (moved next norm) = (norm ∷ [], refl)
+
+pub solving-norms : (c : Content) (f : Field) → (more : List Float) × (solving c f .norms ≡ f .norms ++ more)
+unfolding solving
+solving-norms c f = solved-norms (limitOf c) f (Solver.pass flat (matrixOf c) (toleranceOf c) (f .solve))
+
+-- ---- the first of several answers
+
+-- what holds of no answer and of each is kept by the first
+pub first-of : {A : Type 0} (P : A → Type 0) (or : A → A → A) (nothing : A) (f : ℕ → A) → P nothing → ((a b : A) → P a → P b → P (or a b))
+    → (i k : ℕ) → ((j : ℕ) → i ≤ j → j < i + k → P (f j)) → P (firstOf or nothing f i k)
+unfolding firstOf
+first-of P or nothing f n o i zero h = n
+first-of P or nothing f n o i (suc k) h =
+    o (f i) (firstOf or nothing f (suc i) k) (h i (le-refl i) (omega arith)) (first-of P or nothing f n o (suc i) k (λ (j : ℕ) (a : suc i ≤ j) (b : j < suc i + k). h j (omega arith) (omega arith)))
+
+-- ---- the start
+
+-- a start is in one of the triangles, and came in by an edge or none
+unfoldable pub StartIn : ℕ → Start → Type 0
+StartIn T (Start.At p t e) = (t < T) × (e ≤ 3)
+StartIn T Start.Nothing = Unit {0}
+
+start-or : (T : ℕ) (a b : Start) → StartIn T a → StartIn T b → StartIn T (orElse a b)
+unfolding StartIn
+start-or T (Start.At p t e) b h k = h
+start-or T Start.Nothing b h k = k
+
+start-if : (T : ℕ) (b : Bool) (p : Point) (t e : ℕ) → t < T → e ≤ 3 → StartIn T (pick b (Start.At p t e) Start.Nothing)
+unfolding StartIn
+start-if T true p t e h k = (h, k)
+start-if T false p t e h k = tt
+
+first-start : (T : ℕ) (f : ℕ → Start) (k : ℕ) → ((j : ℕ) → j < k → StartIn T (f j)) → StartIn T (firstStart f 0 k)
+unfolding StartIn
+first-start T f k h = first-of (StartIn T) orElse Start.Nothing f tt (start-or T) 0 k (λ (j : ℕ) (a : 0 ≤ j) (b : j < 0 + k). h j (omega arith))
+
+containing-in : (vs : List Float) (ts : List ℕ) (T : ℕ) (p : Point) → StartIn T (triangleContaining vs ts T p)
+unfolding triangleContaining containedIn
+containing-in vs ts T p =
+    first-start T (containedIn vs ts p) T (λ (j : ℕ) (h : j < T).
+    start-if T (pointInTriangle p (vertex vs (corner ts j 0)) (vertex vs (corner ts j 1)) (vertex vs (corner ts j 2))) _ j noEdge h (omega arith))
+
+inner-in : (vs : List Float) (ts ns tags : List ℕ) (T t : ℕ) → t < T → StartIn T (innerEdgeOf vs ts ns tags t)
+unfolding innerEdgeOf innerEdge
+inner-in vs ts ns tags T t h =
+    first-start T (innerEdge vs ts ns tags t) 3 (λ (e : ℕ) (k : e < 3).
+    start-if T (eqb (neighbour ns t e) noNeighbour && (eqb (tagOf tags (corner ts t e)) inner && eqb (tagOf tags (corner ts t (onward e))) inner)) _ t e h (omega arith))
+
+centroid-in : (vs : List Float) (ts : List ℕ) (T v t : ℕ) → t < T → StartIn T (centroidWith vs ts v t)
+unfolding centroidWith
+centroid-in vs ts T v t h = start-if T (eqb (corner ts t 0) v || (eqb (corner ts t 1) v || eqb (corner ts t 2) v)) _ t noEdge h (omega arith)
+
+pick-start-in : (vs : List Float) (ts ns tags : List ℕ) (T : ℕ) (us : List Float) → StartIn T (pickStart vs ts ns tags T us)
+unfolding pickStart
+pick-start-in vs ts ns tags T us =
+    start-or T (firstStart (innerEdgeOf vs ts ns tags) 0 T) (firstStart (centroidWith vs ts (leastVertex us)) 0 T)
+    (first-start T (innerEdgeOf vs ts ns tags) T (inner-in vs ts ns tags T))
+    (first-start T (centroidWith vs ts (leastVertex us)) T (centroid-in vs ts T (leastVertex us)))
+
+-- what holds of the trail after the start pass: with a start in one of the triangles, or ended with 8 or 9
+pub starting-elim : (P : Trail → Type 0) (c : Content) (us : List Float)
+    → ((p : Point) (t e : ℕ) → t < triangleCount c → e ≤ 3 → P (set-out (Start.At p t e) 0 (gradients flat (c .vertices) us (c .triangles))))
+    → ((k : ℕ) → 0 < k → k ≤ 9 → P (set-out Start.Nothing k (gradients flat (c .vertices) us (c .triangles))))
+    → P (starting c us)
+unfolding starting startFrom StartIn
+starting-elim P c us found lost = given (givenStart c)
+  where
+    from : (s : Start) (k : ℕ) → 0 < k → k ≤ 9 → StartIn (triangleCount c) s → P (set-out s k (gradients flat (c .vertices) us (c .triangles)))
+    from (Start.At p t e) k z m h = found p t e (h .0) (h .1)
+    from Start.Nothing k z m h = lost k z m
+
+    given : (g : Option Point) → P (startFrom g c us (gradients flat (c .vertices) us (c .triangles)))
+    given (some p) = from (triangleContaining (c .vertices) (c .triangles) (triangleCount c) p) 8 (omega arith) (omega arith) (containing-in _ _ _ _)
+    given none = from (pickStart (c .vertices) (c .triangles) (c .neighbours) (c .tags) (triangleCount c) us) 9 (omega arith) (omega arith) (pick-start-in _ _ _ _ _ _)
+
+-- ---- a crossing
+
+-- what holds of the walk after a crossing, by its ends: 1 and 2, 7, 3 to 5, or on with 6 or none
+pub walked-elim : (P : Walk → Type 0) (spacing : Float) (room : ℕ) (last : Bool) (w : Walk) (x : Crossing)
+    → ((k : ℕ) → 0 < k → k ≤ 7 → P (ended w k))
+    → ((q : Point) (b : Beyond) → x ≡ Crossing.Leaves q b → w .points + adds spacing w x ≤ room → P (gone last w q b (adds spacing w x)))
+    → P (walked spacing room last w x)
+unfolding walked
+walked-elim P spacing room last w Crossing.Dull stays goes = stays 1 (omega arith) (omega arith)
+walked-elim P spacing room last w Crossing.Stuck stays goes = stays 2 (omega arith) (omega arith)
+walked-elim P spacing room last w (Crossing.Leaves q b) stays goes = go (ltb room (w .points + (pieces spacing (w .position) q - 1 + closes b))) refl
+  where
+    go : (t : Bool) → ltb room (w .points + (pieces spacing (w .position) q - 1 + closes b)) ≡ t
+        → P (pick t (ended w 7) (gone last w q b (pieces spacing (w .position) q - 1 + closes b)))
+    go true e = stays 7 (omega arith) (omega arith)
+    go false e = goes q b refl (ltb-false room (w .points + (pieces spacing (w .position) q - 1 + closes b)) e)
+
+-- the last crossing has an end
+gone-last : (w : Walk) (q : Point) (b : Beyond) (k : ℕ) → gone true w q b k .end ≢ 0
+gone-last w q Beyond.Border k = omega arith
+gone-last w q Beyond.Unnamed k = omega arith
+gone-last w q Beyond.Above k = omega arith
+gone-last w q (Beyond.Into t e) k = omega arith
+
+pub walked-last : (spacing : Float) (room : ℕ) (w : Walk) (x : Crossing) → walked spacing room true w x .end ≢ 0
+walked-last spacing room w x =
+    walked-elim (λ (v : Walk). v .end ≢ 0) spacing room true w x
+    (λ (k : ℕ) (h : 0 < k) (m : k ≤ 7). omega arith)
+    (λ (q : Point) (b : Beyond) (e : x ≡ Crossing.Leaves q b) (h : w .points + adds spacing w x ≤ room). gone-last w q b (adds spacing w x))
+
+pub gone-points : (last : Bool) (w : Walk) (q : Point) (b : Beyond) (k : ℕ) → gone last w q b k .points ≡ w .points + k
+gone-points last w q Beyond.Border k = refl
+gone-points last w q Beyond.Unnamed k = refl
+gone-points last w q Beyond.Above k = refl
+gone-points last w q (Beyond.Into t e) k = refl
+
+-- a crossing takes no point away
+pub walked-points : (spacing : Float) (room : ℕ) (last : Bool) (w : Walk) (x : Crossing) → w .points ≤ walked spacing room last w x .points
+walked-points spacing room last w x =
+    walked-elim (λ (v : Walk). w .points ≤ v .points) spacing room last w x
+    (λ (k : ℕ) (h : 0 < k) (m : k ≤ 7). le-refl (w .points))
+    (λ (q : Point) (b : Beyond) (e : x ≡ Crossing.Leaves q b) (h : w .points + adds spacing w x ≤ room). omega (arith, gone-points last w q b (adds spacing w x)))
+
+-- a crossing that has no end is not the last, and counts
+pub crossing-on : (c : Content) (us : List Float) (t : Trail) → t .crossings < factor * triangleCount c → crossingPass c us t .walk .end ≡ 0
+    → crossingPass c us t .crossings < factor * triangleCount c
+unfolding crossingPass crossed
+crossing-on c us t h = go (eqb (t .crossings + 1) (factor * triangleCount c)) refl
+  where
+    x : Crossing
+    x = crossing rule (c .vertices) (c .triangles) (c .neighbours) (triangleCount c) us (t .gradients) (stepOf c) (t .walk .position) (t .walk .triangle) (t .walk .edge)
+
+    go : (b : Bool) → eqb (t .crossings + 1) (factor * triangleCount c) ≡ b → walked (rule .spacing) (roomOf c) b (t .walk) x .end ≡ 0 → t .crossings + 1 < factor * triangleCount c
+    go true e k = absurd (walked-last (rule .spacing) (roomOf c) (t .walk) x k)
+    go false e k = let n : t .crossings + 1 ≢ factor * triangleCount c = eqb-false _ _ e in omega arith
+
+pub crossing-counts : (c : Content) (us : List Float) (t : Trail) → crossingPass c us t .crossings ≡ t .crossings + 1
+unfolding crossingPass crossed
+crossing-counts c us t = refl
+
+pub crossing-points : (c : Content) (us : List Float) (t : Trail) → t .walk .points ≤ crossingPass c us t .walk .points
+unfolding crossingPass crossed
+crossing-points c us t = walked-points (rule .spacing) (roomOf c) (eqb (t .crossings + 1) (factor * triangleCount c)) (t .walk) _
+
+-- ---- how great an end is
+
+solved-end : (limit : ℕ) (f : Field) (t : Turn) → solved limit f t .end ≤ 3
+unfolding solved
+solved-end limit f halted = omega arith
+solved-end limit f (reached x r norm) = omega arith
+solved-end limit f (moved next norm) = go (leb limit (length (f .norms)))
+  where
+    go : (b : Bool) → pick {A = ℕ} b 3 0 ≤ 3
+    go true = omega arith
+    go false = omega arith
+
+pub solving-end : (c : Content) (f : Field) → solving c f .end ≤ 3
+unfolding solving
+solving-end c f = solved-end (limitOf c) f (Solver.pass flat (matrixOf c) (toleranceOf c) (f .solve))
+
+gone-end : (last : Bool) (w : Walk) (q : Point) (b : Beyond) (k : ℕ) → gone last w q b k .end ≤ 9
+gone-end last w q Beyond.Border k = omega arith
+gone-end last w q Beyond.Unnamed k = omega arith
+gone-end last w q Beyond.Above k = omega arith
+gone-end last w q (Beyond.Into t e) k = go last
+  where
+    go : (b : Bool) → pick {A = ℕ} b 6 0 ≤ 9
+    go true = omega arith
+    go false = omega arith
+
+pub crossing-end : (c : Content) (us : List Float) (t : Trail) → crossingPass c us t .walk .end ≤ 9
+unfolding crossingPass crossed
+crossing-end c us t =
+    walked-elim (λ (v : Walk). v .end ≤ 9) (rule .spacing) (roomOf c) last (t .walk) x
+    (λ (k : ℕ) (h : 0 < k) (m : k ≤ 7). omega arith)
+    (λ (q : Point) (b : Beyond) (e : x ≡ Crossing.Leaves q b) (h : t .walk .points + adds (rule .spacing) (t .walk) x ≤ roomOf c). gone-end last (t .walk) q b (adds (rule .spacing) (t .walk) x))
+  where
+    last : Bool
+    last = eqb (t .crossings + 1) (factor * triangleCount c)
+
+    x : Crossing
+    x = crossing rule (c .vertices) (c .triangles) (c .neighbours) (triangleCount c) us (t .gradients) (stepOf c) (t .walk .position) (t .walk .triangle) (t .walk .edge)

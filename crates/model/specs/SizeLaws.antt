@@ -1,0 +1,382 @@
+-- Laws of one pass on sizes and ranges: the vectors' and gradients' lengths, the points and the path, and the triangle that a crossing leads into. Assumes nothing.
+use Prim.Native.Nat.{ℕ, zero, suc, _+_, _-_, _*_, _/_, _≤_, _<_}
+use native.Mathlib.Omega.{arith}
+use native.Mathlib.Numerals.{add-one}
+use mathlib.Core.Path.{_≡_, refl, sym, ap, _∙_}
+use mathlib.Core.Logic.{_≢_, ⊎-elim}
+use mathlib.Core.Bool.{Bool, true, false, _&&_, false≢true}
+use mathlib.Core.List.{List, [], _∷_, _++_, zipWith}
+use lib.Dec.{eqb, leb, ltb}
+use lib.ListN.{length, getD, replicate, length-append, length-set, length-replicate}
+use lib.Ieee.{Float, binary64, inf, sub, lt}
+use borrow.Author.Tests.{eqb-false}
+use Rattle.binary64.specs.Arith.{_⊘_}
+use Rattle.binary64.specs.Constants.{plusZero, small}
+use Rattle.binary64.specs.Number.{pick, absOf}
+use Rattle.binary64.specs.Root.{root}
+use Rattle.plane.specs.declared.Point.{Point}
+use Rattle.plane.specs.declared.Hit.{Hit}
+use Rattle.plane.specs.Plane.{rayLineIntersection}
+use Rattle.stretch.specs.Vec.{dot, plus, less}
+use Rattle.stretch.specs.VecLaws.{length-zip}
+use Rattle.sparse.specs.Sparse.{Entry, matVec}
+use Rattle.mesh.specs.Mesh.{vertex, corner, neighbour, noNeighbour, onward, free, held, heldValue}
+use Rattle.mesh.specs.Element.{flat}
+use Rattle.laplace.specs.Assembly.{Push, pushes, row, rows, lowered, coupled, allCoupled, settled, rightSide}
+use Rattle.conjugate.specs.Solver as Solver
+use Rattle.conjugate.specs.Solver.{Solve, Turn, halted, reached, moved, begun}
+use Rattle.gradient.specs.Gradient.{gradients}
+use Rattle.pde.specs.declared.Exit.{Exit}
+use Rattle.pde.specs.declared.Side.{Side}
+use Rattle.pde.specs.declared.Beyond.{Beyond}
+use Rattle.pde.specs.declared.Crossing.{Crossing}
+use Rattle.pde.specs.declared.Walk.{Walk}
+use Rattle.pde.specs.declared.Nearest.{Nearest}
+use Rattle.pde.specs.Exit.{nearest, distance, offered, considered, exitEdge, orSide, firstSide, namesBack, entryEdge, cutEdge, cutTriangle, cutMatch}
+use Rattle.pde.specs.Crossing.{gradientAt, magnitude, direction, valueIn, entering, beyond, left, crossing}
+use Rattle.pde.specs.PathLaws.{length-between}
+use Rattle.pde.specs.Path.{pieces, closes, between, closing, ended, gone, adds, added, walked}
+use Rattle.format.specs.Content.{Content, vertexCount, triangleCount, limitOf, toleranceOf}
+use Rattle.format.specs.Range.{InRange, OfWhole, Between}
+use Rattle.format.specs.declared.Whole.{Whole}
+use Rattle.format.specs.Refusal.{hasWhole}
+use Rattle.format.specs.Content.{wholeOr}
+use Rattle.model.specs.Space.{roomOf, stepOf, factor}
+use Rattle.model.specs.Run.{Field, Trail, rule, matrixOf, rightOf, solved, solving, crossed, crossingPass}
+use Rattle.model.specs.Sized.{Sized, Vectors}
+use Rattle.model.specs.PassLaws.{first-of, gone-points, walked-elim}
+
+-- ---- what every accepted sheet has
+
+room-given : (w : Whole) → hasWhole w ≡ true → OfWhole (Between 1 1000000) w → 1 ≤ wholeOr 0 w
+room-given Whole.Absent h k = absurd (false≢true h)
+room-given (Whole.Given v) h k = k .least
+
+pub sized : (c : Content) → InRange c → Sized c
+sized c h =
+    record {
+      vertices = h .pairs;
+      triangles = h .triples;
+      neighbours = h .edges;
+      tags = h .tagged;
+      inRange = h .neighbours;
+      room = room-given (c .settings .room) (h .roomGiven) (h .room);
+    }
+
+-- ---- the vectors
+
+length-matVec : (rs : List (List Entry)) (x : List Float) → length (matVec rs x) ≡ length rs
+unfolding matVec
+length-matVec [] x = refl
+length-matVec (r ∷ rs) x = ap suc (length-matVec rs x)
+
+length-rows : (tags : List ℕ) (ps : List Push) (n : ℕ) → length (rows tags ps n) ≡ n
+unfolding rows
+length-rows tags ps zero = refl
+length-rows tags ps (suc n) = rw (length-append, length-rows tags ps n) (add-one n)
+
+length-coupled : (value : ℕ → Float) (tags : List ℕ) (p : Push) (rhs : List Float) → length (coupled value tags p rhs) ≡ length rhs
+length-coupled value tags p rhs = go (leb (p .row) (p .col)) (held tags (p .row) && free tags (p .col)) (free tags (p .row) && held tags (p .col))
+  where
+    go : (a b d : Bool) → length (pick a (pick b (lowered value tags (p .col) (p .row) (p .value) rhs) (pick d (lowered value tags (p .row) (p .col) (p .value) rhs) rhs)) rhs) ≡ length rhs
+    go false b d = refl
+    go true true d = length-set rhs (p .col) _
+    go true false true = length-set rhs (p .row) _
+    go true false false = refl
+
+length-allCoupled : (value : ℕ → Float) (tags : List ℕ) (ps : List Push) (rhs : List Float) → length (allCoupled value tags ps rhs) ≡ length rhs
+unfolding allCoupled
+length-allCoupled value tags [] rhs = refl
+length-allCoupled value tags (p ∷ ps) rhs = length-allCoupled value tags ps (coupled value tags p rhs) ∙ length-coupled value tags p rhs
+
+length-settled : (value : ℕ → Float) (tags : List ℕ) (rhs : List Float) → length (settled value tags rhs) ≡ length rhs
+unfolding settled
+length-settled value [] rhs = refl
+length-settled value (t ∷ ts) [] = refl
+length-settled value (t ∷ ts) (y ∷ ys) = ap suc (length-settled value ts ys)
+
+pub matrix-length : (c : Content) → length (matrixOf c) ≡ vertexCount c
+unfolding matrixOf
+matrix-length c = length-rows (c .tags) (pushes (c .vertices) (c .triangles)) (vertexCount c)
+
+pub right-length : (c : Content) → length (rightOf c) ≡ vertexCount c
+unfolding rightOf rightSide
+right-length c =
+    length-settled heldValue (c .tags) _
+    ∙ length-allCoupled heldValue (c .tags) (pushes (c .vertices) (c .triangles)) (replicate (vertexCount c) plusZero)
+    ∙ length-replicate (vertexCount c) plusZero
+
+zipped : (f : Float → Float → Float) (us vs : List Float) (n : ℕ) → length us ≡ n → length vs ≡ n → length (zipWith f us vs) ≡ n
+zipped f us vs n h k = length-zip f us vs (h ∙ sym k) ∙ h
+
+pub begun-vectors : (a : List (List Entry)) (b : List Float) (n : ℕ) → length a ≡ n → length b ≡ n → Vectors n (begun a b)
+unfolding begun
+begun-vectors a b n h k = record { x = length-replicate (length b) plusZero ∙ k; r = residual; p = residual }
+  where
+    residual : length (zipWith (sub binary64) b (matVec a (replicate (length b) plusZero))) ≡ n
+    residual = zipped (sub binary64) b (matVec a (replicate (length b) plusZero)) n k (length-matVec a _ ∙ h)
+
+-- what a pass hands on has n places
+abbrev Handed : ℕ → Turn → Type 0
+Handed n halted = Unit {0}
+Handed n (reached x r norm) = (length x ≡ n) × (length r ≡ n)
+Handed n (moved s norm) = Vectors n s
+
+handed : (n : ℕ) (tiny : Float) (a : List (List Entry)) (tolerance : Float) (s : Solve) → length a ≡ n → Vectors n s → Handed n (Solver.pass tiny a tolerance s)
+unfolding Solver.pass
+handed n tiny a tolerance s e v = go (lt (absOf pap) tiny) (lt (root (dot r r)) tolerance)
+  where
+    q : List Float
+    q = matVec a (s .p)
+
+    pap : Float
+    pap = dot (s .p) q
+
+    x : List Float
+    x = zipWith (plus (s .rs ⊘ pap)) (s .x) (s .p)
+
+    r : List Float
+    r = zipWith (less (s .rs ⊘ pap)) (s .r) q
+
+    long-x : length x ≡ n
+    long-x = zipped (plus (s .rs ⊘ pap)) (s .x) (s .p) n (v .x) (v .p)
+
+    long-r : length r ≡ n
+    long-r = zipped (less (s .rs ⊘ pap)) (s .r) q n (v .r) (length-matVec a (s .p) ∙ e)
+
+    next : Solve
+    next = record { x = x; r = r; p = zipWith (plus (dot r r ⊘ s .rs)) r (s .p); rs = dot r r }
+
+    go : (t u : Bool) → Handed n (pick t halted (pick u (reached x r (root (dot r r))) (moved next (root (dot r r)))))
+    go true u = tt
+    go false true = (long-x, long-r)
+    go false false = record { x = long-x; r = long-r; p = zipped (plus (dot r r ⊘ s .rs)) r (s .p) n long-r (v .p) }
+
+solved-vectors : (n limit : ℕ) (f : Field) (t : Turn) → Vectors n (f .solve) → Handed n t → Vectors n (solved limit f t .solve)
+unfolding solved
+solved-vectors n limit f halted v h = v
+solved-vectors n limit f (reached x r norm) v h = record { x = h .0; r = h .1; p = v .p }
+solved-vectors n limit f (moved s norm) v h = h
+
+pub solving-vectors : (c : Content) (f : Field) → Vectors (vertexCount c) (f .solve) → Vectors (vertexCount c) (solving c f .solve)
+unfolding solving
+solving-vectors c f v =
+    solved-vectors (vertexCount c) (limitOf c) f (Solver.pass flat (matrixOf c) (toleranceOf c) (f .solve)) v
+    (handed (vertexCount c) flat (matrixOf c) (toleranceOf c) (f .solve) (matrix-length c) v)
+
+-- ---- the gradients
+
+pub gradients-length : (vs us : List Float) (ts : List ℕ) → length (gradients flat vs us ts) ≡ 2 * (length ts / 3)
+unfolding gradients
+gradients-length vs us [] = refl
+gradients-length vs us (i ∷ []) = refl
+gradients-length vs us (i ∷ j ∷ []) = refl
+gradients-length vs us (i ∷ j ∷ k ∷ ts) = omega (arith, gradients-length vs us ts)
+
+-- ---- the points
+
+closing-length : (q : Point) (b : Beyond) → length (closing q b) ≡ 2 * closes b
+unfolding closing
+closing-length q Beyond.Border = refl
+closing-length q Beyond.Unnamed = refl
+closing-length q Beyond.Above = refl
+closing-length q (Beyond.Into t e) = refl
+
+added-length : (spacing : Float) (room : ℕ) (last : Bool) (w : Walk) (x : Crossing) → 2 * w .points + length (added spacing room w x) ≡ 2 * walked spacing room last w x .points
+unfolding walked
+added-length spacing room last w Crossing.Dull = omega arith
+added-length spacing room last w Crossing.Stuck = omega arith
+added-length spacing room last w (Crossing.Leaves q b) = go (ltb room (w .points + (n - 1 + closes b)))
+  where
+    n : ℕ
+    n = pieces spacing (w .position) q
+
+    go : (t : Bool) → 2 * w .points + length (pick t [] (between (w .position) q n (n - 1) ++ closing q b)) ≡ 2 * (pick t (ended w 7) (gone last w q b (n - 1 + closes b)) .points)
+    go true = omega arith
+    go false =
+        omega (arith, length-append (between (w .position) q n (n - 1)) (closing q b), length-between (w .position) q n (n - 1), closing-length q b, gone-points last w q b (n - 1 + closes b))
+
+pub crossing-path-length : (c : Content) (us : List Float) (t : Trail) → length (t .path) ≡ 2 * t .walk .points → length (crossingPass c us t .path) ≡ 2 * crossingPass c us t .walk .points
+unfolding crossingPass crossed
+crossing-path-length c us t h = rw (length-append, h) (added-length (rule .spacing) (roomOf c) (eqb (t .crossings + 1) (factor * triangleCount c)) (t .walk) _)
+
+pub crossing-room : (c : Content) (us : List Float) (t : Trail) → t .walk .points ≤ roomOf c → crossingPass c us t .walk .points ≤ roomOf c
+unfolding crossingPass crossed
+crossing-room c us t h =
+    walked-elim (λ (v : Walk). v .points ≤ roomOf c) (rule .spacing) (roomOf c) (eqb (t .crossings + 1) (factor * triangleCount c)) (t .walk) x
+    (λ (k : ℕ) (n : 0 < k) (m : k ≤ 7). h)
+    (λ (q : Point) (b : Beyond) (e : x ≡ Crossing.Leaves q b) (k : t .walk .points + adds (rule .spacing) (t .walk) x ≤ roomOf c).
+    omega (arith, gone-points (eqb (t .crossings + 1) (factor * triangleCount c)) (t .walk) q b (adds (rule .spacing) (t .walk) x)))
+  where
+    x : Crossing
+    x = crossing rule (c .vertices) (c .triangles) (c .neighbours) (triangleCount c) us (t .gradients) (stepOf c) (t .walk .position) (t .walk .triangle) (t .walk .edge)
+
+-- ---- the triangle that a crossing leads into
+
+-- an exit is through one of the three edges
+unfoldable ExitIn : Exit → Type 0
+ExitIn (Exit.Through e p) = e < 3
+ExitIn Exit.Nothing = Unit {0}
+
+offered-in : (pos : Point) (e : ℕ) (h : Hit) (best : Nearest) → e < 3 → ExitIn (best .exit) → ExitIn (offered pos e h best .exit)
+unfolding ExitIn
+offered-in pos e Hit.Nothing best k b = b
+offered-in pos e (Hit.At p) best k b = go (lt small (distance pos p) && lt (distance pos p) (best .far))
+  where
+    go : (t : Bool) → ExitIn (pick t (nearest (distance pos p) (Exit.Through e p)) best .exit)
+    go true = k
+    go false = b
+
+considered-in : (vs : List Float) (ts : List ℕ) (t : ℕ) (pos dir : Point) (entry e : ℕ) (best : Nearest) → e < 3 → ExitIn (best .exit)
+    → ExitIn (considered vs ts t pos dir entry e best .exit)
+unfolding considered
+considered-in vs ts t pos dir entry e best k b = go (eqb e entry)
+  where
+    hit : Hit
+    hit = rayLineIntersection pos dir (vertex vs (corner ts t e)) (vertex vs (corner ts t (onward e)))
+
+    go : (u : Bool) → ExitIn (pick u best (offered pos e hit best) .exit)
+    go true = b
+    go false = offered-in pos e hit best k b
+
+exit-in : (vs : List Float) (ts : List ℕ) (t : ℕ) (pos dir : Point) (entry : ℕ) → ExitIn (exitEdge vs ts t pos dir entry)
+unfolding exitEdge ExitIn
+exit-in vs ts t pos dir entry =
+    considered-in vs ts t pos dir entry 2 _ (omega arith)
+    (considered-in vs ts t pos dir entry 1 _ (omega arith) (considered-in vs ts t pos dir entry 0 (nearest (inf false) Exit.Nothing) (omega arith) tt))
+
+-- a side is an edge of one of the triangles
+unfoldable SideIn : ℕ → Side → Type 0
+SideIn T (Side.Of t e) = (t < T) × (e < 3)
+SideIn T Side.Nothing = Unit {0}
+
+side-or : (T : ℕ) (a b : Side) → SideIn T a → SideIn T b → SideIn T (orSide a b)
+unfolding SideIn
+side-or T (Side.Of t e) b h k = h
+side-or T Side.Nothing b h k = k
+
+side-if : (T : ℕ) (b : Bool) (t e : ℕ) → t < T → e < 3 → SideIn T (pick b (Side.Of t e) Side.Nothing)
+unfolding SideIn
+side-if T true t e h k = (h, k)
+side-if T false t e h k = tt
+
+first-side : (T : ℕ) (f : ℕ → Side) (k : ℕ) → ((j : ℕ) → j < k → SideIn T (f j)) → SideIn T (firstSide f 0 k)
+unfolding SideIn
+first-side T f k h = first-of (SideIn T) orSide Side.Nothing f tt (side-or T) 0 k (λ (j : ℕ) (a : 0 ≤ j) (b : j < 0 + k). h j (omega arith))
+
+entry-in : (ns : List ℕ) (T t prev : ℕ) → t < T → SideIn T (entryEdge ns t prev)
+unfolding entryEdge namesBack
+entry-in ns T t prev h = first-side T (namesBack ns t prev) 3 (λ (e : ℕ) (k : e < 3). side-if T (eqb (neighbour ns t e) prev) t e h k)
+
+cut-triangle-in : (ts ns : List ℕ) (T here a b t : ℕ) → t < T → SideIn T (cutTriangle ts ns here a b t)
+unfolding cutTriangle cutEdge SideIn
+cut-triangle-in ts ns T here a b t h = go (eqb t here)
+  where
+    edges : SideIn T (firstSide (cutEdge ts ns a b t) 0 3)
+    edges =
+        first-side T (cutEdge ts ns a b t) 3 (λ (e : ℕ) (k : e < 3).
+        side-if T (eqb (neighbour ns t e) noNeighbour && (eqb (corner ts t e) b && eqb (corner ts t (onward e)) a)) t e h k)
+
+    go : (u : Bool) → SideIn T (pick u Side.Nothing (firstSide (cutEdge ts ns a b t) 0 3))
+    go true = tt
+    go false = edges
+
+cut-in : (ts ns : List ℕ) (T here e : ℕ) → SideIn T (cutMatch ts ns T here e)
+unfolding cutMatch
+cut-in ts ns T here e = first-side T (cutTriangle ts ns here (corner ts here e) (corner ts here (onward e))) T (cut-triangle-in ts ns T here (corner ts here e) (corner ts here (onward e)))
+
+-- beyond an exit is one of the triangles, by one of its edges, where it is any
+unfoldable BeyondIn : ℕ → Beyond → Type 0
+BeyondIn T Beyond.Border = Unit {0}
+BeyondIn T Beyond.Unnamed = Unit {0}
+BeyondIn T Beyond.Above = Unit {0}
+BeyondIn T (Beyond.Into t e) = (t < T) × (e < 3)
+
+entering-in : (above : Float) (vs : List Float) (ts : List ℕ) (us : List Float) (p : Point) (T : ℕ) (s : Side) (other : Beyond) → SideIn T s → BeyondIn T other
+    → BeyondIn T (entering above vs ts us p s other)
+unfolding entering SideIn BeyondIn
+entering-in above vs ts us p T Side.Nothing other h k = k
+entering-in above vs ts us p T (Side.Of t e) other h k = go (lt above (valueIn vs ts us t p))
+  where
+    go : (b : Bool) → BeyondIn T (pick b Beyond.Above (Beyond.Into t e))
+    go true = tt
+    go false = h
+
+beyond-in : (c : Content) → Sized c → (above : Float) (us : List Float) (t e : ℕ) (p : Point) → t < triangleCount c → e < 3
+    → BeyondIn (triangleCount c) (beyond above (c .vertices) (c .triangles) (c .neighbours) (triangleCount c) us t e p)
+unfolding beyond neighbour BeyondIn
+beyond-in c s above us t e p h k = go (eqb next noNeighbour) refl
+  where
+    next : ℕ
+    next = getD (c .neighbours) (3 * t + e) 0
+
+    range : next ≢ noNeighbour → next < triangleCount c
+    range n = ⊎-elim (λ (z : next ≡ noNeighbour). absurd (n z)) (λ (z : next < triangleCount c). z) (s .inRange (3 * t + e) (omega (arith, s .neighbours)))
+
+    go : (b : Bool) → eqb next noNeighbour ≡ b
+        → BeyondIn (triangleCount c) (pick b (entering above (c .vertices) (c .triangles) us p (cutMatch (c .triangles) (c .neighbours) (triangleCount c) t e) Beyond.Border)
+        (entering above (c .vertices) (c .triangles) us p (entryEdge (c .neighbours) next t) Beyond.Unnamed))
+    go true z = entering-in above (c .vertices) (c .triangles) us p (triangleCount c) _ Beyond.Border (cut-in (c .triangles) (c .neighbours) (triangleCount c) t e) tt
+    go false z = entering-in above (c .vertices) (c .triangles) us p (triangleCount c) _ Beyond.Unnamed (entry-in (c .neighbours) (triangleCount c) next t (range (eqb-false next noNeighbour z))) tt
+
+unfoldable CrossingIn : ℕ → Crossing → Type 0
+unfolding BeyondIn
+CrossingIn T Crossing.Dull = Unit {0}
+CrossingIn T Crossing.Stuck = Unit {0}
+CrossingIn T (Crossing.Leaves q b) = BeyondIn T b
+
+left-in : (c : Content) → Sized c → (above : Float) (us : List Float) (t : ℕ) (x : Exit) → t < triangleCount c → ExitIn x
+    → CrossingIn (triangleCount c) (left above (c .vertices) (c .triangles) (c .neighbours) (triangleCount c) us t x)
+unfolding CrossingIn ExitIn
+left-in c s above us t Exit.Nothing h k = tt
+left-in c s above us t (Exit.Through e p) h k = beyond-in c s above us t e p h k
+
+crossing-in : (c : Content) → Sized c → (us gs : List Float) (pos : Point) (t entry : ℕ) → t < triangleCount c
+    → CrossingIn (triangleCount c) (crossing rule (c .vertices) (c .triangles) (c .neighbours) (triangleCount c) us gs (stepOf c) pos t entry)
+unfolding crossing CrossingIn
+crossing-in c s us gs pos t entry h = go (lt (magnitude (gradientAt gs t)) (rule .dull))
+  where
+    exit : Exit
+    exit = exitEdge (c .vertices) (c .triangles) t pos (direction (stepOf c) (gradientAt gs t) (magnitude (gradientAt gs t))) entry
+
+    go : (b : Bool) → CrossingIn (triangleCount c) (pick b Crossing.Dull (left (rule .above) (c .vertices) (c .triangles) (c .neighbours) (triangleCount c) us t exit))
+    go true = tt
+    go false = left-in c s (rule .above) us t exit h (exit-in (c .vertices) (c .triangles) t pos _ entry)
+
+-- a walk is in one of the triangles, which it entered by an edge or none
+pub record WalkIn (T : ℕ) (w : Walk) : Type 0 where
+  pub triangle : w .triangle < T
+  pub edge : w .edge ≤ 3
+
+gone-in : (T : ℕ) (last : Bool) (w : Walk) (q : Point) (b : Beyond) (k : ℕ) → WalkIn T w → BeyondIn T b → WalkIn T (gone last w q b k)
+unfolding BeyondIn
+gone-in T last w q Beyond.Border k h b = record { triangle = h .triangle; edge = h .edge }
+gone-in T last w q Beyond.Unnamed k h b = record { triangle = h .triangle; edge = h .edge }
+gone-in T last w q Beyond.Above k h b = record { triangle = h .triangle; edge = h .edge }
+gone-in T last w q (Beyond.Into t e) k h b = record { triangle = b .0; edge = omega arith }
+
+pub crossing-walk : (c : Content) → Sized c → (us : List Float) (t : Trail) → WalkIn (triangleCount c) (t .walk) → WalkIn (triangleCount c) (crossingPass c us t .walk)
+unfolding crossingPass crossed CrossingIn
+crossing-walk c s us t h =
+    walked-elim (WalkIn (triangleCount c)) (rule .spacing) (roomOf c) last (t .walk) x
+    (λ (k : ℕ) (n : 0 < k) (m : k ≤ 7). record { triangle = h .triangle; edge = h .edge })
+    (λ (q : Point) (b : Beyond) (e : x ≡ Crossing.Leaves q b) (k : t .walk .points + adds (rule .spacing) (t .walk) x ≤ roomOf c).
+    gone-in (triangleCount c) last (t .walk) q b (adds (rule .spacing) (t .walk) x) h (rw e at inside))
+  where
+    last : Bool
+    last = eqb (t .crossings + 1) (factor * triangleCount c)
+
+    x : Crossing
+    x = crossing rule (c .vertices) (c .triangles) (c .neighbours) (triangleCount c) us (t .gradients) (stepOf c) (t .walk .position) (t .walk .triangle) (t .walk .edge)
+
+    inside : CrossingIn (triangleCount c) x
+    inside = crossing-in c s us (t .gradients) (t .walk .position) (t .walk .triangle) (t .walk .edge) (h .triangle)
+
+-- the path after a crossing begins with the path before it
+pub crossing-path : (c : Content) (us : List Float) (t : Trail) → (more : List Float) × (crossingPass c us t .path ≡ t .path ++ more)
+unfolding crossingPass crossed
+crossing-path c us t = (_, refl)
+
+pub crossing-gradients : (c : Content) (us : List Float) (t : Trail) → crossingPass c us t .gradients ≡ t .gradients
+unfolding crossingPass crossed
+crossing-gradients c us t = refl

@@ -1,0 +1,1 @@
+// The uninterrupted run and the counter machine, as definitions.

@@ -1,0 +1,4 @@
+pub mod CrossLaws
+pub mod EdgeLaws
+pub mod PointLaws
+pub mod LengthLaws

@@ -1,0 +1,145 @@
+-- Where an answer points: its triangle is below the count and its edge below 3. Definitions, and the laws that the searches' answers are so. Assumes nothing.
+use mathlib.Core.Path.{_≡_, refl, subst}
+use mathlib.Core.Bool.{Bool, true, false, _&&_}
+use mathlib.Core.List.{List}
+use Prim.Native.Nat.{ℕ, zero, suc, _+_, _≤_, _<_}
+use native.Mathlib.Omega.{arith}
+use lib.Dec.{eqb}
+use borrow.Author.Tests.{eqb-false}
+use lib.Ieee.{Float, lt}
+use Rattle.binary64.specs.Constants.{small}
+use Rattle.binary64.specs.Number.{pick}
+use Rattle.plane.specs.declared.Point.{Point}
+use Rattle.plane.specs.declared.Hit.{Hit}
+use Rattle.plane.specs.Plane.{rayLineIntersection}
+use Rattle.mesh.specs.declared.Mesh.{Mesh}
+use Rattle.mesh.specs.Mesh.{vertex, corner, neighbour, noNeighbour, onward}
+use Rattle.mesh.specs.Work.{trianglesOf, neighboursOf, Linked}
+use Rattle.mesh.specs.WorkLaws.{neighbour-below}
+use Rattle.pde.specs.Search.{firstOf}
+use Rattle.pde.specs.declared.Exit.{Exit}
+use Rattle.pde.specs.declared.Nearest.{Nearest}
+use Rattle.pde.specs.declared.Side.{Side}
+use Rattle.pde.specs.declared.Beyond.{Beyond}
+use Rattle.pde.specs.declared.Crossing.{Crossing}
+use Rattle.pde.specs.declared.Rule.{Rule}
+use Rattle.pde.specs.Exit.{distance, orSide, isCut, offered, considered, exitEdge, namesBack, entryEdge, cutEdge, cutTriangle, cutMatch, nearest}
+use Rattle.pde.specs.Crossing.{gradientAt, magnitude, direction, valueIn, entering, beyond, left, crossing}
+
+-- ---- where an answer points
+
+abbrev pub SideIn : ℕ → Side → Type 0
+SideIn n (Side.Of t e) = (t < n) × (e < 3)
+SideIn n Side.Nothing = Unit
+
+abbrev pub ExitIn : Exit → Type 0
+ExitIn (Exit.Through e p) = e < 3
+ExitIn Exit.Nothing = Unit
+
+abbrev pub BeyondIn : ℕ → Beyond → Type 0
+BeyondIn n Beyond.Border = Unit
+BeyondIn n Beyond.Unnamed = Unit
+BeyondIn n Beyond.Above = Unit
+BeyondIn n (Beyond.Into t e) = (t < n) × (e < 3)
+
+abbrev pub CrossingIn : ℕ → Crossing → Type 0
+CrossingIn n Crossing.Dull = Unit
+CrossingIn n Crossing.Stuck = Unit
+CrossingIn n (Crossing.Leaves p b) = BeyondIn n b
+
+-- what a match on such an answer tells
+pub side-of : {n t e : ℕ} {s : Side} → SideIn n s → s ≡ Side.Of t e → (t < n) × (e < 3)
+side-of {n} h p = subst (SideIn n) p h
+
+pub exit-of : {e : ℕ} {p : Point} {x : Exit} → ExitIn x → x ≡ Exit.Through e p → e < 3
+exit-of h p = subst ExitIn p h
+
+-- ---- of a pick, and of a search
+
+pick-in : {A : Type 0} (P : A → Type 0) (t : Bool) (a b : A) → (t ≡ true → P a) → (t ≡ false → P b) → P (pick t a b)
+pick-in P true a b p q = p refl
+pick-in P false a b p q = q refl
+
+first-in : {A : Type 0} (P : A → Type 0) (orElse : A → A → A) (nothing : A) (f : ℕ → A) → ((a b : A) → P a → P b → P (orElse a b)) → P nothing → (i k : ℕ)
+    → ((j : ℕ) → j < i + k → P (f j)) → P (firstOf orElse nothing f i k)
+unfolding firstOf
+first-in P orElse nothing f or none i zero each = none
+first-in P orElse nothing f or none i (suc k) each =
+    or (f i) (firstOf orElse nothing f (suc i) k) (each i (omega arith)) (first-in P orElse nothing f or none (suc i) k (λ j h. each j (omega arith)))
+
+-- ---- the exit
+
+offered-in : (pos : Point) (e : ℕ) (hit : Hit) (best : Nearest) → e < 3 → ExitIn (best .exit) → ExitIn (offered pos e hit best .exit)
+offered-in pos e (Hit.At p) best h b =
+    let d = distance pos p in
+    pick-in (λ (n : Nearest). ExitIn (n .exit)) (lt small d && lt d (best .far)) (nearest d (Exit.Through e p)) best (λ _. h) (λ _. b)
+offered-in pos e Hit.Nothing best h b = b
+
+considered-in : (vs : List Float) (ts : List ℕ) (t : ℕ) (pos dir : Point) (entry e : ℕ) (best : Nearest) → e < 3 → ExitIn (best .exit) → ExitIn (considered vs ts t pos dir entry e best .exit)
+unfolding considered
+considered-in vs ts t pos dir entry e best h b =
+    let hit = rayLineIntersection pos dir (vertex vs (corner ts t e)) (vertex vs (corner ts t (onward e))) in
+    pick-in (λ (n : Nearest). ExitIn (n .exit)) (eqb e entry) best (offered pos e hit best) (λ _. b) (λ _. offered-in pos e hit best h b)
+
+pub exit-in : (vs : List Float) (ts : List ℕ) (t : ℕ) (pos dir : Point) (entry : ℕ) → ExitIn (exitEdge vs ts t pos dir entry)
+unfolding exitEdge
+exit-in vs ts t pos dir entry =
+    let each = considered-in vs ts t pos dir entry in
+    each 2 _ (omega arith) (each 1 _ (omega arith) (each 0 _ (omega arith) tt))
+
+-- ---- the edge beyond
+
+or-in : (n : ℕ) (a b : Side) → SideIn n a → SideIn n b → SideIn n (orSide a b)
+or-in n (Side.Of t e) b p q = p
+or-in n Side.Nothing b p q = q
+
+side-in : (n : ℕ) (f : ℕ → Side) (k : ℕ) → ((j : ℕ) → j < k → SideIn n (f j)) → SideIn n (firstOf orSide Side.Nothing f 0 k)
+side-in n f k each = first-in (SideIn n) orSide Side.Nothing f (or-in n) tt 0 k (λ j h. each j (omega arith))
+
+pub entry-in : (ns : List ℕ) (n t prev : ℕ) → t < n → SideIn n (entryEdge ns t prev)
+unfolding entryEdge namesBack
+entry-in ns n t prev h = side-in n (namesBack ns t prev) 3 (λ e k. pick-in (SideIn n) (eqb (neighbour ns t e) prev) (Side.Of t e) Side.Nothing (λ _. (h, k)) (λ _. tt))
+
+cut-edge-in : (ts ns : List ℕ) (a b n t e : ℕ) → t < n → e < 3 → SideIn n (cutEdge ts ns a b t e)
+unfolding cutEdge
+cut-edge-in ts ns a b n t e h k = pick-in (SideIn n) (isCut ts ns a b t e) (Side.Of t e) Side.Nothing (λ _. (h, k)) (λ _. tt)
+
+cut-triangle-in : (ts ns : List ℕ) (here a b n t : ℕ) → t < n → SideIn n (cutTriangle ts ns here a b t)
+unfolding cutTriangle
+cut-triangle-in ts ns here a b n t h =
+    pick-in (SideIn n) (eqb t here) Side.Nothing _ (λ _. tt) (λ _. side-in n (cutEdge ts ns a b t) 3 (λ e k. cut-edge-in ts ns a b n t e h k))
+
+pub cut-in : (ts ns : List ℕ) (n here e : ℕ) → SideIn n (cutMatch ts ns n here e)
+unfolding cutMatch
+cut-in ts ns n here e = side-in n _ n (λ t h. cut-triangle-in ts ns here _ _ n t h)
+
+-- ---- a crossing
+
+entering-in : (n : ℕ) (above : Float) (vs : List Float) (ts : List ℕ) (us : List Float) (p : Point) (s : Side) (other : Beyond) → SideIn n s → BeyondIn n other → BeyondIn n (entering above vs ts us p s other)
+unfolding entering
+entering-in n above vs ts us p (Side.Of t e) other h k = pick-in (BeyondIn n) (lt above (valueIn vs ts us t p)) Beyond.Above (Beyond.Into t e) (λ _. tt) (λ _. h)
+entering-in n above vs ts us p Side.Nothing other h k = k
+
+module _ {words : List ℕ} {m : Mesh} (linked : Linked words m) (above : Float) (vs us : List Float) where
+  beyond-in : (t e : ℕ) (p : Point) → t < m .t → e < 3 → BeyondIn (m .t) (beyond above vs (trianglesOf words m) (neighboursOf words m) (m .t) us t e p)
+  unfolding beyond
+  beyond-in t e p h k =
+      let ts = trianglesOf words m in
+      let ns = neighboursOf words m in
+      pick-in (BeyondIn (m .t)) (eqb (neighbour ns t e) noNeighbour) _ _
+      (λ _. entering-in (m .t) above vs ts us p _ Beyond.Border (cut-in ts ns (m .t) t e) tt)
+      (λ f. entering-in (m .t) above vs ts us p _ Beyond.Unnamed (entry-in ns (m .t) _ t (neighbour-below linked t e h k (eqb-false _ _ f))) tt)
+
+  left-in : (t : ℕ) (exit : Exit) → t < m .t → ExitIn exit → CrossingIn (m .t) (left above vs (trianglesOf words m) (neighboursOf words m) (m .t) us t exit)
+  left-in t (Exit.Through e p) h k = beyond-in t e p h k
+  left-in t Exit.Nothing h k = tt
+
+pub crossing-in : {words : List ℕ} {m : Mesh} (linked : Linked words m) (rule : Rule) (vs us gs : List Float) (step : Float) (pos : Point) (t entry : ℕ) → t < m .t
+    → CrossingIn (m .t) (crossing rule vs (trianglesOf words m) (neighboursOf words m) (m .t) us gs step pos t entry)
+unfolding crossing
+crossing-in {words} {m} linked rule vs us gs step pos t entry h =
+    let ts = trianglesOf words m in
+    let mag = magnitude (gradientAt gs t) in
+    let exit = exitEdge vs ts t pos (direction step (gradientAt gs t) mag) entry in
+    pick-in (CrossingIn (m .t)) (lt mag (rule .dull)) Crossing.Dull (left (rule .above) vs ts (neighboursOf words m) (m .t) us t exit)
+    (λ _. tt) (λ _. left-in linked (rule .above) vs us t exit h (exit-in vs ts t pos _ entry))

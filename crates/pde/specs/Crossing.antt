@@ -1,0 +1,68 @@
+-- One crossing of a triangle (mesh/pde.rs, the loop of `trace_spiral`; document 01, Crossing): along the level line turned outward by the step. Definitions only. Assumes nothing.
+use Prim.Native.Nat.{ℕ, _+_, _*_}
+use mathlib.Core.List.{List}
+use lib.Dec.{eqb}
+use lib.ListN.{getD}
+use lib.Ieee.{Float, nan, binary64, ofBits, neg, lt}
+use Rattle.binary64.specs.Arith.{_⊕_, _⊗_, _⊘_}
+use Rattle.binary64.specs.Constants.{two}
+use Rattle.binary64.specs.Number.{pick}
+use Rattle.binary64.specs.Root.{root}
+use Rattle.plane.specs.declared.Point.{Point}
+use Rattle.plane.specs.Plane.{point, interpolated}
+use Rattle.mesh.specs.Mesh.{vertex, corner, neighbour, noNeighbour}
+use Rattle.pde.specs.declared.Exit.{Exit}
+use Rattle.pde.specs.declared.Side.{Side}
+use Rattle.pde.specs.declared.Beyond.{Beyond}
+use Rattle.pde.specs.declared.Crossing.{Crossing}
+use Rattle.pde.specs.declared.Rule.{Rule}
+use Rattle.pde.specs.Exit.{exitEdge, entryEdge, cutMatch}
+
+-- PI (document 01, Stand-ins)
+abbrev pub pi : Float
+pi = ofBits binary64 0x4009_21fb_5444_2d18
+
+-- the gradient of triangle t, and its magnitude
+unfoldable pub gradientAt : List Float → ℕ → Point
+gradientAt gs t = point (getD gs (2 * t) nan) (getD gs (2 * t + 1) nan)
+
+unfoldable pub magnitude : Point → Float
+magnitude g = root (g .x ⊗ g .x ⊕ g .y ⊗ g .y)
+
+-- The unit gradient turned a quarter, plus step · mag / 2π of the unit gradient.
+unfoldable pub direction : Float → Point → Float → Point
+direction step g mag =
+    let nx = g .x ⊘ mag in
+    let ny = g .y ⊘ mag in
+    let alpha = step ⊗ mag ⊘ (two ⊗ pi) in
+    point (neg ny ⊕ alpha ⊗ nx) (nx ⊕ alpha ⊗ ny)
+
+-- the field at p, interpolated in triangle t
+unfoldable pub valueIn : List Float → List ℕ → List Float → ℕ → Point → Float
+valueIn vs ts us t p =
+    let a = corner ts t 0 in
+    let b = corner ts t 1 in
+    let c = corner ts t 2 in
+    interpolated p (vertex vs a) (vertex vs b) (vertex vs c) (getD us a nan) (getD us b nan) (getD us c nan)
+
+-- into triangle t by its edge e, unless the field at p is above the threshold there
+unfoldable pub entering : Float → List Float → List ℕ → List Float → Point → Side → Beyond → Beyond
+entering above vs ts us p (Side.Of t e) other = pick (lt above (valueIn vs ts us t p)) Beyond.Above (Beyond.Into t e)
+entering above vs ts us p Side.Nothing other = other
+
+-- beyond edge e of triangle t, left at p: over a cut edge, or to the neighbour by the edge that names us back
+unfoldable pub beyond : Float → List Float → List ℕ → List ℕ → ℕ → List Float → ℕ → ℕ → Point → Beyond
+beyond above vs ts ns count us t e p =
+    let next = neighbour ns t e in
+    pick (eqb next noNeighbour) (entering above vs ts us p (cutMatch ts ns count t e) Beyond.Border) (entering above vs ts us p (entryEdge ns next t) Beyond.Unnamed)
+
+abbrev pub left : Float → List Float → List ℕ → List ℕ → ℕ → List Float → ℕ → Exit → Crossing
+left above vs ts ns count us t (Exit.Through e p) = Crossing.Leaves p (beyond above vs ts ns count us t e p)
+left above vs ts ns count us t Exit.Nothing = Crossing.Stuck
+
+-- what crossing triangle t from pos, entered by an edge, comes to
+unfoldable pub crossing : Rule → List Float → List ℕ → List ℕ → ℕ → List Float → List Float → Float → Point → ℕ → ℕ → Crossing
+crossing rule vs ts ns count us gs step pos t entry =
+    let g = gradientAt gs t in
+    let mag = magnitude g in
+    pick (lt mag (rule .dull)) Crossing.Dull (left (rule .above) vs ts ns count us t (exitEdge vs ts t pos (direction step g mag) entry))

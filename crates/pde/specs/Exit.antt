@@ -1,0 +1,76 @@
+-- Where a ray leaves a triangle, and which edge is entered beyond (mesh/pde.rs, `find_exit_edge`, `entry_edge_of`, `find_cut_edge_match`). Definitions only. Assumes nothing.
+use Prim.Native.Nat.{ℕ, suc}
+use mathlib.Core.Bool.{Bool, false, _&&_}
+use mathlib.Core.List.{List}
+use lib.Dec.{eqb}
+use lib.Ieee.{Float, inf, lt}
+use Rattle.binary64.specs.Arith.{_⊕_, _⊖_, _⊗_}
+use Rattle.binary64.specs.Constants.{small}
+use Rattle.binary64.specs.Number.{pick}
+use Rattle.binary64.specs.Root.{root}
+use Rattle.plane.specs.declared.Point.{Point}
+use Rattle.plane.specs.declared.Hit.{Hit}
+use Rattle.plane.specs.Plane.{rayLineIntersection}
+use Rattle.mesh.specs.Mesh.{vertex, corner, neighbour, noNeighbour, onward}
+use Rattle.pde.specs.Search.{firstOf}
+use Rattle.pde.specs.declared.Exit.{Exit}
+use Rattle.pde.specs.declared.Nearest.{Nearest}
+use Rattle.pde.specs.declared.Side.{Side}
+
+-- the distance of two points
+unfoldable pub distance : Point → Point → Float
+distance p q =
+    let dx = q .x ⊖ p .x in
+    let dy = q .y ⊖ p .y in
+    root (dx ⊗ dx ⊕ dy ⊗ dy)
+
+-- ---- the exit
+
+abbrev pub nearest : Float → Exit → Nearest
+nearest d e = record { far = d; exit = e }
+
+-- a hit counts where it is farther than 1e-12 and nearer than the best
+abbrev pub offered : Point → ℕ → Hit → Nearest → Nearest
+offered pos e (Hit.At p) best = let d = distance pos p in pick (lt small d && lt d (best .far)) (nearest d (Exit.Through e p)) best
+offered pos e Hit.Nothing best = best
+
+-- edge e, unless it is the entry edge
+unfoldable pub considered : List Float → List ℕ → ℕ → Point → Point → ℕ → ℕ → Nearest → Nearest
+considered vs ts t pos dir entry e best =
+    pick (eqb e entry) best (offered pos e (rayLineIntersection pos dir (vertex vs (corner ts t e)) (vertex vs (corner ts t (onward e)))) best)
+
+-- the three edges in order
+unfoldable pub exitEdge : List Float → List ℕ → ℕ → Point → Point → ℕ → Exit
+exitEdge vs ts t pos dir entry =
+    let best0 = considered vs ts t pos dir entry 0 (nearest (inf false) Exit.Nothing) in
+    let best1 = considered vs ts t pos dir entry 1 best0 in
+    considered vs ts t pos dir entry 2 best1 .exit
+
+-- ---- the edge beyond
+
+abbrev pub orSide : Side → Side → Side
+orSide (Side.Of t e) s = Side.Of t e
+orSide Side.Nothing s = s
+
+abbrev pub firstSide : (ℕ → Side) → ℕ → ℕ → Side
+firstSide f i k = firstOf orSide Side.Nothing f i k
+
+-- the first edge of t whose neighbour is `prev`
+unfoldable pub namesBack : List ℕ → ℕ → ℕ → ℕ → Side
+namesBack ns t prev e = pick (eqb (neighbour ns t e) prev) (Side.Of t e) Side.Nothing
+
+unfoldable pub entryEdge : List ℕ → ℕ → ℕ → Side
+entryEdge ns t prev = firstSide (namesBack ns t prev) 0 3
+
+-- A cut edge, from a to b: the first other triangle, then the first edge, that has no neighbour and the corners reversed.
+abbrev pub isCut : List ℕ → List ℕ → ℕ → ℕ → ℕ → ℕ → Bool
+isCut ts ns a b t e = eqb (neighbour ns t e) noNeighbour && (eqb (corner ts t e) b && eqb (corner ts t (onward e)) a)
+
+unfoldable pub cutEdge : List ℕ → List ℕ → ℕ → ℕ → ℕ → ℕ → Side
+cutEdge ts ns a b t e = pick (isCut ts ns a b t e) (Side.Of t e) Side.Nothing
+
+unfoldable pub cutTriangle : List ℕ → List ℕ → ℕ → ℕ → ℕ → ℕ → Side
+cutTriangle ts ns here a b t = pick (eqb t here) Side.Nothing (firstSide (cutEdge ts ns a b t) 0 3)
+
+unfoldable pub cutMatch : List ℕ → List ℕ → ℕ → ℕ → ℕ → Side
+cutMatch ts ns count here e = firstSide (cutTriangle ts ns here (corner ts here e) (corner ts here (onward e))) 0 count

@@ -1,0 +1,9 @@
+pub mod Search
+pub mod SearchLaws
+pub mod Start
+pub mod Exit
+pub mod Crossing
+pub mod Path
+pub mod Bounds
+pub mod Work
+pub mod PathLaws

@@ -1,0 +1,142 @@
+// One crossing of a triangle: along the level line turned outward by the step.
+use super::Beyond;
+use super::Crossing;
+use super::Exit;
+use super::Rule;
+use super::Side;
+use super::edges;
+use mesh::Mesh;
+use plane::Point;
+ghost use mathlib.Core.Path.{_≡_};
+ghost use Prim.Native.Nat.{_+_, _*_, _<_, _≤_};
+ghost use lib.ListN.{length};
+ghost use Rattle.mesh.specs.Work.{verticesOf, trianglesOf, neighboursOf, Meshed};
+ghost use Rattle.pde.specs.Bounds.{SideIn};
+ghost use Rattle.pde.specs.Crossing as Crossings;
+ghost use Rattle.pde.specs.Work.{Fielded, Graded, fieldOf, gradientsOf, crossingIn};
+
+// Bits 400921fb54442d18.
+const PI: f64 = 3.141592653589793;
+
+// The gradient of triangle t.
+fn gradient_at(floats: &[f64], m: Mesh, gradients: usize, t: usize) -> Point
+    requires { ⌜ (gradients + 2 * m .t ≤ length (now floats)) × (t < m .t) ⌝ }
+    ensures { λ r. ⌜ r ≡ Crossings.gradientAt (gradientsOf (now (floats .entry)) m gradients) t ⌝ }
+{
+    let k = gradients + 2 * t;
+    let l = k + 1;
+    Point {
+        x: floats[k],
+        y: floats[l],
+    }
+}
+
+fn magnitude(g: Point) -> f64
+    ensures { λ r. ⌜ r ≡ Crossings.magnitude g ⌝ }
+{
+    binary64::root::sqrt(g.x * g.x + g.y * g.y)
+}
+
+// The unit gradient turned a quarter, plus step · mag / 2π of the unit gradient.
+fn direction(step: f64, g: Point, mag: f64) -> Point
+    ensures { λ r. ⌜ r ≡ Crossings.direction step g mag ⌝ }
+{
+    let nx = g.x / mag;
+    let ny = g.y / mag;
+    let alpha = step * mag / (2.0 * PI);
+    Point {
+        x: -ny + alpha * nx,
+        y: nx + alpha * ny,
+    }
+}
+
+// The field at p, interpolated in triangle t.
+fn value_in(floats: &[f64], words: &[u32], m: Mesh, u: usize, t: usize, p: Point) -> f64
+    requires { ⌜ (Fielded (now floats) (now words) m u) × (t < m .t) ⌝ }
+    ensures { λ r. ⌜ r ≡ Crossings.valueIn (verticesOf (now (floats .entry)) m) (trianglesOf (now (words .entry)) m) (fieldOf (now (floats .entry)) m u) t p ⌝ }
+{
+    let a = mesh::corner(words, m, t, 0);
+    let b = mesh::corner(words, m, t, 1);
+    let c = mesh::corner(words, m, t, 2);
+    let va = mesh::vertex(floats, m, a);
+    let vb = mesh::vertex(floats, m, b);
+    let vc = mesh::vertex(floats, m, c);
+    let at_a = u + a;
+    let at_b = u + b;
+    let at_c = u + c;
+    plane::barycentric_interpolate(p, va, vb, vc, floats[at_a], floats[at_b], floats[at_c])
+}
+
+// Into a side's triangle by its edge, unless the field at p is above the threshold there.
+fn entering(
+    floats: &[f64],
+    words: &[u32],
+    m: Mesh,
+    u: usize,
+    above: f64,
+    p: Point,
+    side: Side,
+    other: Beyond,
+) -> Beyond
+    requires { ⌜ (Fielded (now floats) (now words) m u) × (SideIn (m .t) side) ⌝ }
+    ensures { λ r. ⌜ r ≡ Crossings.entering above (verticesOf (now (floats .entry)) m) (trianglesOf (now (words .entry)) m) (fieldOf (now (floats .entry)) m u) p side other ⌝ }
+{
+    let Side::Of(t, e) = side else {
+        return other;
+    };
+    if value_in(floats, words, m, u, t, p) > above {
+        return Beyond::Above;
+    }
+    Beyond::Into(t, e)
+}
+
+// Beyond edge e of triangle t, left at p: over a cut edge, or to the neighbour by the edge that names us back.
+fn beyond(
+    floats: &[f64],
+    words: &[u32],
+    m: Mesh,
+    u: usize,
+    above: f64,
+    t: usize,
+    e: usize,
+    p: Point,
+) -> Beyond
+    requires { ⌜ (Fielded (now floats) (now words) m u) × (t < m .t) × (e < 3) ⌝ }
+    ensures { λ r. ⌜ r ≡ Crossings.beyond above (verticesOf (now (floats .entry)) m) (trianglesOf (now (words .entry)) m) (neighboursOf (now (words .entry)) m) (m .t) (fieldOf (now (floats .entry)) m u) t e p ⌝ }
+{
+    let next = mesh::neighbour(words, m, t, e);
+    if next == mesh::NONE {
+        let cut = edges::find_cut_edge_match(words, m, t, e);
+        return entering(floats, words, m, u, above, p, cut, Beyond::Border);
+    }
+    let back = edges::entry_edge_of(words, m, mesh::wide(next), t);
+    entering(floats, words, m, u, above, p, back, Beyond::Unnamed)
+}
+
+// What crossing triangle t from `pos`, entered by an edge, comes to.
+pub fn crossing(
+    floats: &[f64],
+    words: &[u32],
+    m: Mesh,
+    u: usize,
+    gradients: usize,
+    rule: Rule,
+    step: f64,
+    pos: Point,
+    t: usize,
+    entry: usize,
+) -> Crossing
+    requires { ⌜ (Graded (now floats) (now words) m u gradients) × (t < m .t) ⌝ }
+    ensures { λ r. ⌜ r ≡ crossingIn (now (floats .entry)) (now (words .entry)) m u gradients rule step pos t entry ⌝ }
+{
+    let g = gradient_at(floats, m, gradients, t);
+    let mag = magnitude(g);
+    if mag < rule.dull {
+        return Crossing::Dull;
+    }
+    let dir = direction(step, g, mag);
+    let Exit::Through(e, p) = edges::find_exit_edge(floats, words, m, t, pos, dir, entry) else {
+        return Crossing::Stuck;
+    };
+    Crossing::Leaves(p, beyond(floats, words, m, u, rule.above, t, e, p))
+}

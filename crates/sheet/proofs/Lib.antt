@@ -1,0 +1,5 @@
+pub mod Check
+pub mod Heads
+pub mod Reading
+pub mod Scan
+pub mod Steps

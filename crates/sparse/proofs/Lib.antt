@@ -1,0 +1,2 @@
+pub mod LawsScan
+pub mod LawsProduct

@@ -1,0 +1,115 @@
+// A sparse matrix by rows in two lent buffers.
+ghost use mathlib.Core.Path.{_≡_};
+ghost use Prim.Native.Nat.{_+_, _-_, _<_, _≤_};
+ghost use lib.ListN.{length, getD};
+ghost use Rattle.stretch.specs.Stretch.{part};
+ghost use Rattle.sparse.specs.Sparse.{rowProduct, entries};
+ghost use Rattle.sparse.specs.Scan as Scan;
+ghost use Rattle.sparse.specs.Product as Product;
+
+// `rows` + 1 row starts from `starts` and `count` columns from `cols` in the words, `count` values from `vals` in the floats. A row start counts entries.
+pub struct Csr {
+    pub starts: usize,
+    pub cols: usize,
+    pub vals: usize,
+    pub rows: usize,
+    pub count: usize,
+}
+
+fn wide(x: u32) -> usize
+    ensures { λ r. ⌜ r ≡ x ⌝ }
+{
+    x as usize
+}
+
+// Whether the k words from `at` are below n.
+pub fn all_below(words: &[u32], at: usize, n: u32, k: usize) -> bool
+    requires { ⌜ at + k ≤ length (now words) ⌝ }
+    ensures { λ r. ⌜ r ≡ Scan.allBelow n (part (now (words .entry)) at k) ⌝ }
+{
+    let mut good = true;
+    for j in 0..k {
+        let i = at + j;
+        good = good & (words[i] < n);
+    }
+    good
+}
+
+// Whether the k + 1 words from `at` never fall, and the last is at most `count`.
+pub fn starts_rise(words: &[u32], at: usize, k: usize, count: usize) -> bool
+    requires { ⌜ at + k < length (now words) ⌝ }
+    ensures { λ r. ⌜ r ≡ Scan.rises count (part (now (words .entry)) at (k + 1)) ⌝ }
+{
+    let mut good = true;
+    let mut low = words[at];
+    for j in 0..k {
+        let i = at + j + 1;
+        let next = words[i];
+        good = good & (low <= next);
+        low = next;
+    }
+    good & (wide(low) <= count)
+}
+
+// The word at a place, as an index below n.
+fn index(words: &[u32], at: usize, n: usize) -> usize
+    requires { ⌜ (at < length (now words)) × (getD (now words) at 0 < n) ⌝ }
+    ensures { λ r. ⌜ (r ≡ getD (now (words .entry)) at 0) × (r < n) ⌝ }
+{
+    wide(words[at])
+}
+
+// The product of a row, the entries from `from` up to `to`, with x.
+fn row(cols: &[u32], values: &[f64], x: &[f64], from: usize, to: usize) -> f64
+    requires { ⌜ Product.Row (now cols) (length (now values)) (length (now x)) from to ⌝ }
+    ensures { λ r. ⌜ r ≡ rowProduct (entries (part (now (cols .entry)) from (to - from)) (part (now (values .entry)) from (to - from))) (now (x .entry)) ⌝ }
+{
+    let n = x.len();
+    let mut sum = 0.0;
+    for e in from..to {
+        let c = index(cols, e, n);
+        sum = sum + values[e] * x[c];
+    }
+    sum
+}
+
+// The product of a row of the stored matrix, its entries from `from` up to `to`, with the floats from p.
+fn row_at(floats: &[f64], words: &[u32], m: Csr, p: usize, from: usize, to: usize) -> f64
+    requires { ⌜ Product.RowAt (now words) (length (now floats)) m p from to ⌝ }
+    ensures { λ r. ⌜ r ≡ rowProduct (Product.rowFromTo (now (words .entry)) (now (floats .entry)) m from to) (part (now (floats .entry)) p (m .rows)) ⌝ }
+{
+    let c = m.cols;
+    let c_end = c + m.count;
+    let v = m.vals;
+    let v_end = v + m.count;
+    let p_end = p + m.rows;
+    row(
+        &words[c..c_end],
+        &floats[v..v_end],
+        &floats[p..p_end],
+        from,
+        to,
+    )
+}
+
+// The product of the matrix with the floats from p, at the stretch from `at`, and what it sums to with them.
+pub fn product(floats: &mut [f64], words: &[u32], m: Csr, at: usize, p: usize) -> f64
+    requires { ⌜ Product.Multiplies (now words) (length (now floats)) m at p ⌝ }
+    ensures { λ r. ⌜ Product.Multiplied (now (words .entry)) (now (floats .entry)) (now (floats .exit)) m at p r ⌝ }
+{
+    let n = m.rows;
+    let s = m.starts;
+    let mut from = wide(words[s]);
+    let mut total = 0.0;
+    for i in 0..n {
+        let o = m.starts + i + 1;
+        let to = wide(words[o]);
+        let y = row_at(floats, words, m, p, from, to);
+        let j = p + i;
+        let k = at + i;
+        total = total + floats[j] * y;
+        floats[k] = y;
+        from = to;
+    }
+    total
+}
