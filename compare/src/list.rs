@@ -1,7 +1,7 @@
 //! A fixed list of inputs and answers, for a Rattle program that replays it without Rust (crates/replay_numbers).
 
 use crate::rng::Rng;
-use crate::trial::{Compared, Counts, Subject};
+use crate::trial::{Counts, Listed, Subject};
 
 /// How many inputs of each function are taken at least, beyond those that it lists itself.
 const MORE: usize = 30;
@@ -45,7 +45,7 @@ fn adds_to<const N: usize, const M: usize>(subject: &Subject<N, M>, input: &[f64
 }
 
 /// Prints the list as the tables of a Rattle program, in the layout of rt fmt: an array for each function, row after row.
-pub fn print(subjects: &[Box<dyn Compared>], seed: u64) {
+pub fn print(subjects: &[Box<dyn Listed>], seed: u64) {
     println!("// Inputs and answers as bit patterns, with one pattern for every NaN. `compare/run --list` printed this file: the answers are those of");
     println!("// the original Rust and of Rust's f64, with the seed {seed}. A row has the inputs in the order of the parameters, and then the answer.");
     for subject in subjects {

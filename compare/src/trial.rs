@@ -62,12 +62,27 @@ impl Counts {
         self.note(sort, class);
     }
 
-    fn add(&mut self, other: &Counts) {
+    pub fn add(&mut self, other: &Counts) {
         for (mine, its) in self.of.iter_mut().zip(&other.of) {
             for (m, i) in mine.iter_mut().zip(its) {
                 *m += i;
             }
         }
+    }
+
+    pub fn print(&self, sorts: &[Sort]) {
+        for (sort, of) in sorts.iter().zip(&self.of) {
+            let parts: Vec<String> = sort.classes.iter().zip(of).map(|(c, n)| format!("{c} {n}")).collect();
+            println!("    {}: {}", sort.what, parts.join(", "));
+        }
+    }
+}
+
+/// Prints the first of those that differ, each with the number of its job.
+pub fn print_differing(mut shown: Vec<(usize, String)>) {
+    shown.sort();
+    for (_, line) in shown.iter().take(5) {
+        println!("    DIFFERS at {line}");
     }
 }
 
@@ -84,11 +99,15 @@ pub struct Subject<const N: usize, const M: usize> {
     pub listed: Vec<[f64; N]>,
 }
 
-/// A subject, whatever its numbers of inputs and answers are.
+/// A subject, whatever its inputs and answers are.
 pub trait Compared {
     fn name(&self) -> &'static str;
     /// Compares every input and prints what was run; the first few that differ are printed whole.
     fn compare(&self, scale: Scale) -> Outcome;
+}
+
+/// A subject of which the fixed list has rows.
+pub trait Listed: Compared {
     /// Some of the inputs, each with the original's answer.
     fn rows(&self, seed: u64) -> Vec<Vec<u64>>;
 }
@@ -103,6 +122,21 @@ pub struct Scale {
 pub struct Outcome {
     pub agree: u64,
     pub differ: u64,
+}
+
+/// The blocks of each plan, one after another: the plan's number and the block's.
+pub fn jobs(blocks: impl Iterator<Item = u64>) -> Vec<(usize, u64)> {
+    blocks.enumerate().flat_map(|(p, n)| (0..n).map(move |b| (p, b))).collect()
+}
+
+/// What the threads give, one for each processor. Each takes the next job's number until there is none left.
+pub fn on_every_processor<T: Send>(work: impl Fn(&AtomicUsize) -> T + Sync) -> Vec<T> {
+    let next = AtomicUsize::new(0);
+    let threads = thread::available_parallelism().map_or(1, |n| n.get());
+    thread::scope(|s| {
+        let workers: Vec<_> = (0..threads).map(|_| s.spawn(|| work(&next))).collect();
+        workers.into_iter().map(|w| w.join().unwrap()).collect()
+    })
 }
 
 /// What one thread found.
@@ -176,14 +210,8 @@ impl<const N: usize, const M: usize> Subject<N, M> {
         for (plan, n) in self.plans.iter().zip(&inputs) {
             println!("    {} {}", n, plan.what);
         }
-        for (sort, of) in self.sorts.iter().zip(&counts.of) {
-            let parts: Vec<String> = sort.classes.iter().zip(of).map(|(c, n)| format!("{c} {n}")).collect();
-            println!("    {}: {}", sort.what, parts.join(", "));
-        }
-        shown.sort();
-        for (_, line) in shown.iter().take(5) {
-            println!("    DIFFERS at {line}");
-        }
+        counts.print(self.sorts);
+        print_differing(shown);
         Outcome { agree: total - differ, differ }
     }
 }
@@ -194,17 +222,12 @@ impl<const N: usize, const M: usize> Compared for Subject<N, M> {
     }
 
     fn compare(&self, scale: Scale) -> Outcome {
-        let jobs: Vec<(usize, u64)> =
-            self.plans.iter().enumerate().flat_map(|(p, plan)| (0..plan.blocks * scale.times).map(move |b| (p, b))).collect();
-        let next = AtomicUsize::new(0);
-        let threads = thread::available_parallelism().map_or(1, |n| n.get());
-        let found: Vec<Found> = thread::scope(|s| {
-            let workers: Vec<_> = (0..threads).map(|_| s.spawn(|| self.work(&jobs, &next, scale.seed))).collect();
-            workers.into_iter().map(|w| w.join().unwrap()).collect()
-        });
-        self.report(found)
+        let jobs = jobs(self.plans.iter().map(|plan| plan.blocks * scale.times));
+        self.report(on_every_processor(|next| self.work(&jobs, next, scale.seed)))
     }
+}
 
+impl<const N: usize, const M: usize> Listed for Subject<N, M> {
     fn rows(&self, seed: u64) -> Vec<Vec<u64>> {
         list::choose(self, seed)
             .iter()

@@ -1,5 +1,7 @@
 // The library's functions under C names, for programs that compare them with the Rust. A point is passed as its two numbers.
 
+mod sheets;
+
 use plane::Hit;
 use plane::Point;
 ghost use mathlib.Core.Path.{_≡_};

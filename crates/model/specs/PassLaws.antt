@@ -24,7 +24,7 @@ use Rattle.pde.specs.declared.Walk.{Walk}
 use Rattle.pde.specs.declared.Beyond.{Beyond}
 use Rattle.pde.specs.declared.Crossing.{Crossing}
 use Rattle.pde.specs.Search.{firstOf}
-use Rattle.pde.specs.Start.{noEdge, inner, firstStart, orElse, containedIn, triangleContaining, innerEdge, innerEdgeOf, leastVertex, centroidWith, pickStart}
+use Rattle.pde.specs.Start.{noEdge, inner, firstStart, orElse, containedIn, triangleContaining, innerEdge, innerEdgeOf, leastVertex, centroidWith, pickStart, firstInner, firstWith}
 use Rattle.pde.specs.Crossing.{crossing}
 use Rattle.pde.specs.Path.{pieces, closes, ended, gone, adds, walked}
 use Rattle.format.specs.Content.{Content, triangleCount, limitOf, toleranceOf}
@@ -178,7 +178,7 @@ unfolding centroidWith
 centroid-in vs ts T v t h = start-if T (eqb (corner ts t 0) v || (eqb (corner ts t 1) v || eqb (corner ts t 2) v)) _ t noEdge h (omega arith)
 
 pick-start-in : (vs : List Float) (ts ns tags : List ℕ) (T : ℕ) (us : List Float) → StartIn T (pickStart vs ts ns tags T us)
-unfolding pickStart
+unfolding pickStart firstInner firstWith
 pick-start-in vs ts ns tags T us =
     start-or T (firstStart (innerEdgeOf vs ts ns tags) 0 T) (firstStart (centroidWith vs ts (leastVertex us)) 0 T)
     (first-start T (innerEdgeOf vs ts ns tags) T (inner-in vs ts ns tags T))

@@ -2,3 +2,4 @@ pub mod CrossLaws
 pub mod EdgeLaws
 pub mod PointLaws
 pub mod LengthLaws
+pub mod StartLaws

@@ -23,6 +23,8 @@ use Rattle.pde.specs.declared.Side.{Side}
 use Rattle.pde.specs.declared.Beyond.{Beyond}
 use Rattle.pde.specs.declared.Crossing.{Crossing}
 use Rattle.pde.specs.declared.Rule.{Rule}
+use Rattle.pde.specs.declared.Start.{Start}
+use Rattle.pde.specs.Start.{noEdge, orElse, contains, containedIn, triangleContaining, isInner, middle, innerEdge, innerEdgeOf, firstInner, leastVertex, has, centroid, centroidWith, firstWith, pickStart}
 use Rattle.pde.specs.Exit.{distance, orSide, isCut, offered, considered, exitEdge, namesBack, entryEdge, cutEdge, cutTriangle, cutMatch, nearest}
 use Rattle.pde.specs.Crossing.{gradientAt, magnitude, direction, valueIn, entering, beyond, left, crossing}
 
@@ -31,6 +33,10 @@ use Rattle.pde.specs.Crossing.{gradientAt, magnitude, direction, valueIn
 abbrev pub SideIn : ℕ → Side → Type 0
 SideIn n (Side.Of t e) = (t < n) × (e < 3)
 SideIn n Side.Nothing = Unit
+
+abbrev pub StartIn : ℕ → Start → Type 0
+StartIn n (Start.At p t e) = (t < n) × (e ≤ 3)
+StartIn n Start.Nothing = Unit
 
 abbrev pub ExitIn : Exit → Type 0
 ExitIn (Exit.Through e p) = e < 3
@@ -51,6 +57,9 @@ CrossingIn n (Crossing.Leaves p b) = BeyondIn n b
 pub side-of : {n t e : ℕ} {s : Side} → SideIn n s → s ≡ Side.Of t e → (t < n) × (e < 3)
 side-of {n} h p = subst (SideIn n) p h
 
+pub start-of : {n t e : ℕ} {p : Point} {s : Start} → StartIn n s → s ≡ Start.At p t e → (t < n) × (e ≤ 3)
+start-of {n} h p = subst (StartIn n) p h
+
 pub exit-of : {e : ℕ} {p : Point} {x : Exit} → ExitIn x → x ≡ Exit.Through e p → e < 3
 exit-of h p = subst ExitIn p h
 
@@ -66,6 +75,35 @@ unfolding firstOf
 first-in P orElse nothing f or none i zero each = none
 first-in P orElse nothing f or none i (suc k) each =
     or (f i) (firstOf orElse nothing f (suc i) k) (each i (omega arith)) (first-in P orElse nothing f or none (suc i) k (λ j h. each j (omega arith)))
+
+-- ---- the start
+
+or-start-in : (n : ℕ) (a b : Start) → StartIn n a → StartIn n b → StartIn n (orElse a b)
+or-start-in n (Start.At p t e) b h k = h
+or-start-in n Start.Nothing b h k = k
+
+start-in : (n : ℕ) (f : ℕ → Start) (k : ℕ) → ((j : ℕ) → j < k → StartIn n (f j)) → StartIn n (firstOf orElse Start.Nothing f 0 k)
+start-in n f k each = first-in (StartIn n) orElse Start.Nothing f (or-start-in n) tt 0 k (λ j h. each j (omega arith))
+
+pub containing-in : (vs : List Float) (ts : List ℕ) (n : ℕ) (p : Point) → StartIn n (triangleContaining vs ts n p)
+unfolding triangleContaining containedIn
+containing-in vs ts n p =
+    start-in n (containedIn vs ts p) n (λ t h. pick-in (StartIn n) (contains vs ts p t) (Start.At p t noEdge) Start.Nothing (λ _. (h, omega arith)) (λ _. tt))
+
+inner-in : (vs : List Float) (ts ns tags : List ℕ) (n t : ℕ) → t < n → StartIn n (innerEdgeOf vs ts ns tags t)
+unfolding innerEdgeOf innerEdge
+inner-in vs ts ns tags n t h =
+    start-in n (innerEdge vs ts ns tags t) 3 (λ e k. pick-in (StartIn n) (isInner ts ns tags t e) (Start.At (middle vs ts t e) t e) Start.Nothing (λ _. (h, omega arith)) (λ _. tt))
+
+with-in : (vs : List Float) (ts : List ℕ) (n v : ℕ) → StartIn n (firstWith vs ts n v)
+unfolding firstWith centroidWith
+with-in vs ts n v =
+    start-in n (centroidWith vs ts v) n (λ t h. pick-in (StartIn n) (has ts v t) (Start.At (centroid vs ts t) t noEdge) Start.Nothing (λ _. (h, omega arith)) (λ _. tt))
+
+pub pick-start-in : (vs : List Float) (ts ns tags : List ℕ) (n : ℕ) (us : List Float) → StartIn n (pickStart vs ts ns tags n us)
+unfolding pickStart firstInner
+pick-start-in vs ts ns tags n us =
+    or-start-in n (firstInner vs ts ns tags n) _ (start-in n (innerEdgeOf vs ts ns tags) n (λ t h. inner-in vs ts ns tags n t h)) (with-in vs ts n (leastVertex us))
 
 -- ---- the exit
 

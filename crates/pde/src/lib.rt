@@ -1,4 +1,5 @@
 // The spiral: where it starts, where it leaves a triangle, and one crossing.
+pub mod begin;
 pub mod cross;
 pub mod edges;
 pub mod path;
