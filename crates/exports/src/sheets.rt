@@ -1,10 +1,11 @@
-// The reader of sheets under C names. No struct or enum crosses the border: a setting is a presence, 0 or 1, and a number.
+// The reader and the writer of sheets under C names. No struct or enum crosses the border: a setting is a presence, 0 or 1, and a number.
 
 use format::Real;
 use format::Settings;
 use format::Whole;
 use sheet::Checked;
 use sheet::Header;
+use sheet::Written;
 
 // Stores that leave out what has no place.
 fn put(out: &mut [u64], at: usize, v: u64) {
@@ -120,4 +121,68 @@ pub extern "C" fn cintrok_neighbour(part: &[u8], i: usize) -> u32 {
 #[no_mangle]
 pub extern "C" fn cintrok_tag(part: &[u8], i: usize) -> u32 {
     sheet::items::tag(part, i) as u32
+}
+
+// A setting from its presence at `at` and its number.
+
+fn whole_from(wholes: &[u64], at: usize, number: usize) -> Whole {
+    if at < wholes.len() {
+        if number < wholes.len() {
+            if wholes[at] != 0 {
+                return Whole::Given(wholes[number]);
+            }
+        }
+    }
+    Whole::Absent
+}
+
+fn real_from(wholes: &[u64], at: usize, reals: &[f64], number: usize) -> Real {
+    if at < wholes.len() {
+        if number < reals.len() {
+            if wholes[at] != 0 {
+                return Real::Given(reals[number]);
+            }
+        }
+    }
+    Real::Absent
+}
+
+fn settings_from(wholes: &[u64], reals: &[f64]) -> Settings {
+    let limit = whole_from(wholes, 2, 8);
+    let tolerance = real_from(wholes, 3, reals, 0);
+    let step = real_from(wholes, 4, reals, 1);
+    let x = real_from(wholes, 5, reals, 2);
+    let y = real_from(wholes, 6, reals, 3);
+    let room = whole_from(wholes, 7, 9);
+    Settings {
+        limit,
+        tolerance,
+        step,
+        x,
+        y,
+        room,
+    }
+}
+
+// 0 with the sheet's length, as far as there is a place for it; or the refusal's number. The settings stand as `cintrok_check_sheet` leaves them.
+#[no_mangle]
+pub extern "C" fn cintrok_write_sheet(
+    vertices: &[f64],
+    triangles: &[u32],
+    neighbours: &[u32],
+    tags: &[u8],
+    wholes: &[u64],
+    reals: &[f64],
+    out: &mut [u8],
+    length: &mut [u64],
+) -> u32 {
+    let settings = settings_from(wholes, reals);
+    let written = sheet::write_sheet(vertices, triangles, neighbours, tags, settings, out);
+    match written {
+        Written::Refused(k) => k,
+        Written::Bytes(n) => {
+            put(length, 0, n as u64);
+            0
+        }
+    }
 }

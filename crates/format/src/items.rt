@@ -122,7 +122,7 @@ pub fn add(s: Settings, one: Setting) -> Settings
     }
 }
 
-fn has_whole(w: Whole) -> bool
+pub fn has_whole(w: Whole) -> bool
     ensures { λ r. ⌜ r ≡ hasWhole w ⌝ }
 {
     match w {
@@ -131,7 +131,7 @@ fn has_whole(w: Whole) -> bool
     }
 }
 
-fn has_real(w: Real) -> bool
+pub fn has_real(w: Real) -> bool
     ensures { λ r. ⌜ r ≡ hasReal w ⌝ }
 {
     match w {

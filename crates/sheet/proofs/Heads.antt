@@ -69,3 +69,17 @@ unlike-rule e size s = same-rule (within e e 3) (unlike e) size s (ap (λ (t : B
     go false b p q =
         let l : count s < e = leb-false _ _ p in
         ap (λ (i : Bool). i && leb (count s) e) p ∙ sym (ne-eqb (count s) e (omega arith))
+
+-- ---- a count, and what follows it
+
+pub over-refuses : (limit k b : ℕ) → limit < k → 2 ≡ (over limit k then b)
+over-refuses limit k b h = sym (ap (λ (n : ℕ). n then b) (pick-false 0 2 (lt-leb k limit h)))
+
+pub over-passes : (limit k r b : ℕ) → k ≤ limit → r ≡ b → r ≡ (over limit k then b)
+over-passes limit k r b h e = e ∙ sym (ap (λ (n : ℕ). n then b) (pick-true 0 2 (le-leb k limit h)))
+
+pub unlike-refuses : (e k b : ℕ) → (k ≡ e → ⊥) → 3 ≡ (unlike e k then b)
+unlike-refuses e k b h = sym (ap (λ (n : ℕ). n then b) (pick-false 0 3 (ne-eqb k e h)))
+
+pub unlike-passes : (e k r b : ℕ) → k ≡ e → r ≡ b → r ≡ (unlike e k then b)
+unlike-passes e k r b h p = p ∙ sym (ap (λ (n : ℕ). n then b) (pick-true 0 3 (eq-eqb k e h)))

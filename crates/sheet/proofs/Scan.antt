@@ -51,3 +51,19 @@ patterns xs = each-map coordinateFault (ofBits binary64) xs
 pub number-one : (s : List ℕ) (i : ℕ) → getD s i 0 ≡ number 1 (drop (1 * i) s)
 unfolding number
 number-one s i = sym (ap (λ (n : ℕ). number 1 (drop n s)) (one-mul i) ∙ number-drop 0 i s ∙ omega arith)
+
+-- ---- a loop over the elements of a list
+
+module _ {A : Type 0} (f : A → ℕ) (xs : List A) (d : A) where
+  pub list-none : Passed f xs 0
+  list-none = passed-none f xs
+
+  -- r is what refuses the i-th element
+  pub list-more : (i r : ℕ) → Passed f xs i → i < length xs → r ≡ f (getD xs i d) → r ≡ 0 → Passed f xs (i + 1)
+  list-more i r p h e z = passed-more f xs d i p h (sym e ∙ z)
+
+  pub list-until : (i r : ℕ) → Passed f xs i → i < length xs → r ≡ f (getD xs i d) → (r ≡ 0 → ⊥) → r ≡ each f xs
+  list-until i r p h e z = e ∙ sym (passed-until f xs d i p h (λ y. z (e ∙ y)))
+
+  pub list-all : (i : ℕ) → Passed f xs i → length xs ≤ i → 0 ≡ each f xs
+  list-all i p h = sym (passed-all f xs i p h)

@@ -1,3 +1,4 @@
 pub mod Answer
 pub mod Items
 pub mod ItemLaws
+pub mod Write

@@ -1,6 +1,8 @@
 // The archive's sheet (document 01, section Sheet): a sheet is checked, its items are handed out, and a sheet is written.
 pub mod items;
+mod refusing;
 mod sections;
+mod writing;
 
 use crate::sections::Items;
 use format::Settings;
@@ -9,6 +11,7 @@ ghost use Prim.Native.Nat.{ℕ, _+_, _*_, _≤_, _<_};
 ghost use lib.ListN.{length};
 ghost use Rattle.format.specs.Sheet.{parse};
 ghost use Rattle.sheet.specs.Answer.{headerBy, checkedOf, finished, Whole5};
+ghost use Rattle.sheet.specs.Write.{contentBy, Writes};
 
 // What an accepted sheet has: n vertices, t triangles, where the items of sections 1 to 4 start, and its settings.
 pub struct Header {
@@ -23,6 +26,12 @@ pub struct Header {
 
 pub enum Checked {
     Accepted(Header),
+    Refused(u32),
+}
+
+// How many bytes a sheet that was written has.
+pub enum Written {
+    Bytes(usize),
     Refused(u32),
 }
 
@@ -74,4 +83,33 @@ pub fn check_sheet(s: &[u8]) -> Checked
         Items::Refused(k) => Checked::Refused(k),
         Items::Read(settings) => finish(s5, n, t, settings),
     }
+}
+
+// The sheet of a content, from the front of out.
+pub fn write_sheet(
+    vertices: &[f64],
+    triangles: &[u32],
+    neighbours: &[u32],
+    tags: &[u8],
+    settings: Settings,
+    out: &mut [u8],
+) -> Written
+    ensures { λ r. ⌜ Writes (contentBy (now (vertices .entry)) (now (triangles .entry)) (now (neighbours .entry)) (now (tags .entry)) settings) (now (out .entry)) r (now (out .exit)) ⌝ }
+{
+    let refused = crate::refusing::content_refusal(vertices, triangles, neighbours, tags, settings);
+    if refused != 0 {
+        return Written::Refused(refused);
+    }
+    let m = crate::writing::present_count(settings);
+    let size = 20
+        + 8 * vertices.len()
+        + 4 * triangles.len()
+        + 4 * neighbours.len()
+        + tags.len()
+        + 9 * m;
+    if out.len() < size {
+        return Written::Refused(8);
+    }
+    crate::writing::put_sheet(vertices, triangles, neighbours, tags, settings, out);
+    Written::Bytes(size)
 }
