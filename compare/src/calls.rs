@@ -3,12 +3,12 @@
 use crate::cases::{kind, same, Cases, Tally, Verdict};
 use crate::content::{Content, Settings, FACTOR, MAX_LIMIT, MAX_ROOM, MAX_TRIANGLES, MAX_VERTICES};
 use crate::floats::{any, canon, special};
-use crate::machine::{needs, space, Machine};
+use crate::machine::{any_call, any_lent, needs, space, Call, Machine};
 use crate::meshes::{changed, fan, few, grid, heap, ring, Make};
 use crate::opened::{behind, refuses, same_buffers, Opened};
 use crate::paths::tracing;
 use crate::rattle_run as rattle;
-use crate::rattle_run::{Call, Record};
+use crate::rattle_run::Record;
 use crate::rng::Rng;
 use crate::trial::Sort;
 use crate::uninterrupted::{Run, Trace};
@@ -114,37 +114,8 @@ fn kind_of_place(trace: &Trace, machine: &Machine) -> usize {
 }
 
 fn note(tally: &mut Tally, call: Call, said: u32) {
-    let kind = match call {
-        Call::Advance(_) => 0,
-        Call::Back(_) => 1,
-        Call::Mark => 2,
-        Call::Return => 3,
-    };
-    tally.counts.note(0, kind);
+    tally.counts.note(0, call.numbers()[0] as usize);
     tally.counts.note(1, [0, 8, 9, 10].iter().position(|k| *k == said).unwrap());
-}
-
-/// Any call, with numbers small and large beside the last place.
-fn any_call(rng: &mut Rng, last: usize) -> Call {
-    let within = rng.below(last as u64 + 2) as u32;
-    let k = rng.pick(&[0, 1, 1, 2, 3, 7, within, within, last as u32, u32::MAX]);
-    match rng.below(8) {
-        0..3 => Call::Advance(k),
-        3..5 => Call::Back(k),
-        5 => Call::Mark,
-        _ => Call::Return,
-    }
-}
-
-/// All that there is, just what is needed, something between; one time in eight too little of one buffer.
-fn any_lent(rng: &mut Rng, all: [usize; 3], needs: [usize; 3]) -> [usize; 3] {
-    let mut lent = [0, 1, 2].map(|i| rng.between(needs[i] as i64, all[i] as i64) as usize);
-    if rng.one_in(8) {
-        let i = rng.below(3) as usize;
-        let less = rng.below(needs[i] as u64) as usize;
-        lent[i] = rng.pick(&[needs[i] - 1, 0, less]);
-    }
-    lent
 }
 
 // ---- altered records and buffers
@@ -159,20 +130,25 @@ fn somewhere(rng: &mut Rng, content: &Content) -> Result<Opened, String> {
     Ok(opened)
 }
 
-/// Calls on a run with some numbers altered, each from the same alteration. Each returns, and where it refuses, record and buffers are as they were.
+/// Calls on a run with some numbers altered, and more from call to call; after a refusal often from the unaltered run again, so that other alterations
+/// get as far as a pass. Each returns, and where it refuses, record and buffers are as they were.
 fn anyhow(rng: &mut Rng, content: &Content, tally: &mut Tally) {
     let mut opened = match somewhere(rng, content) {
         Ok(opened) => opened,
         Err(why) => return tally.note(Err(why)),
     };
+    let unaltered = (opened.record.clone(), opened.buffers.clone());
     for _ in 0..20 {
         for _ in 0..rng.between(1, 3) {
             alter(rng, &mut opened);
         }
         let call = any_call(rng, 200);
         let lent = any_lent(rng, opened.lengths(), needs(content));
-        let verdict = returns(&mut opened, call, lent, tally);
-        tally.note(verdict);
+        let said = returns(&mut opened, call, lent, tally);
+        if said != Ok(0) && !rng.one_in(4) {
+            (opened.record, opened.buffers) = unaltered.clone();
+        }
+        tally.note(said.map(drop));
     }
 }
 
@@ -216,7 +192,7 @@ fn keep_flags(record: &mut Record) {
 }
 
 /// What a call on any record owes: 10 for n, T, limit or room, then 8; no change where it refuses; what is lent past the space stays.
-fn returns(opened: &mut Opened, call: Call, lent: [usize; 3], tally: &mut Tally) -> Verdict {
+fn returns(opened: &mut Opened, call: Call, lent: [usize; 3], tally: &mut Tally) -> Result<u32, String> {
     let record = opened.record.clone();
     let before = opened.buffers.clone();
     let said = rattle::call(&mut opened.record, call, &mut opened.buffers, lent);
@@ -240,7 +216,7 @@ fn returns(opened: &mut Opened, call: Call, lent: [usize; 3], tally: &mut Tally)
         same("the record after a refusal", &record, &opened.record)?;
         same_buffers(&before, &opened.buffers)?;
     }
-    Ok(())
+    Ok(said)
 }
 
 /// One index or count that is outside its range: every call refuses with 10, and record and buffers are as they were.

@@ -9,7 +9,7 @@ use crate::opened::Opened;
 use crate::originals;
 use crate::originals::laplace::{solve_laplace, solve_laplace_with_history};
 #[cfg(run)]
-use crate::rattle_run::Call;
+use crate::machine::Call;
 use crate::rng::Rng;
 use crate::stand_ins::last_matrix;
 use crate::trial::Sort;
@@ -117,7 +117,7 @@ fn as_library(_: &mut Rng, _: &Run, _: &State) -> Verdict {
 }
 
 /// The uninterrupted run and both solvers of the original.
-fn as_original(content: &Content, run: &Run, s: &State) -> Verdict {
+pub fn as_original(content: &Content, run: &Run, s: &State) -> Verdict {
     let mesh = originals::mesh(content);
     let limit = content.settings.limit.map(|k| k as usize);
     let (x, norms) = solve_laplace_with_history(&mesh, limit, content.settings.tolerance)?;

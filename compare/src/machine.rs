@@ -1,7 +1,50 @@
 //! Document 01's counter machine, and the space rule. Written from that document, apart from the library.
 
 use crate::content::Content;
-use crate::rattle_run::Call;
+use crate::rng::Rng;
+
+#[derive(Clone, Copy, PartialEq, Debug)]
+pub enum Call {
+    Advance(u32),
+    Back(u32),
+    Mark,
+    Return,
+}
+
+impl Call {
+    /// The number of its kind, and its k.
+    pub fn numbers(self) -> [u32; 2] {
+        match self {
+            Call::Advance(k) => [0, k],
+            Call::Back(k) => [1, k],
+            Call::Mark => [2, 0],
+            Call::Return => [3, 0],
+        }
+    }
+}
+
+/// Any call, with numbers small and large beside the last place.
+pub fn any_call(rng: &mut Rng, last: usize) -> Call {
+    let within = rng.below(last as u64 + 2) as u32;
+    let k = rng.pick(&[0, 1, 1, 2, 3, 7, within, within, last as u32, u32::MAX]);
+    match rng.below(8) {
+        0..3 => Call::Advance(k),
+        3..5 => Call::Back(k),
+        5 => Call::Mark,
+        _ => Call::Return,
+    }
+}
+
+/// All that there is, just what is needed, something between; one time in eight too little of one buffer.
+pub fn any_lent(rng: &mut Rng, all: [usize; 3], needs: [usize; 3]) -> [usize; 3] {
+    let mut lent = [0, 1, 2].map(|i| rng.between(needs[i] as i64, all[i] as i64) as usize);
+    if rng.one_in(8) {
+        let i = rng.below(3) as usize;
+        let less = rng.below(needs[i] as u64) as usize;
+        lent[i] = rng.pick(&[needs[i] - 1, 0, less]);
+    }
+    lent
+}
 
 /// Floats, u32 and floats of the path that a run needs.
 pub fn space(n: usize, t: usize, limit: usize, room: usize) -> [usize; 3] {

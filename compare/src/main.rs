@@ -11,9 +11,10 @@ mod drafts;
 mod fields;
 mod floats;
 mod list;
-#[cfg(run)]
+mod list_sheets;
 mod machine;
 mod meshes;
+mod near_misses;
 mod numbers;
 #[cfg(run)]
 mod opened;
@@ -27,6 +28,7 @@ mod rattle_run;
 mod rattle_sheet;
 mod reader;
 mod rng;
+mod runs;
 mod samples;
 mod shapes;
 #[cfg(sheet)]
@@ -37,6 +39,7 @@ mod timing;
 mod timing_runs;
 mod trial;
 mod uninterrupted;
+mod whole;
 mod writer;
 
 /// The path by which the original names its types.
@@ -70,7 +73,7 @@ fn subjects() -> Vec<Box<dyn Compared>> {
     all.push(Box::new(samples::samples()));
     #[cfg(sheet)]
     all.extend([Box::new(sheets::reading()) as Box<dyn Compared>, Box::new(sheets::writing())]);
-    all.extend([Box::new(fields::fields()) as Box<dyn Compared>, Box::new(paths::paths())]);
+    all.extend([Box::new(fields::fields()) as Box<dyn Compared>, Box::new(paths::paths()), Box::new(whole::whole())]);
     #[cfg(run)]
     all.extend([Box::new(calls::lists()) as Box<dyn Compared>, Box::new(calls::altered())]);
     all
@@ -80,6 +83,9 @@ enum Task {
     Compare,
     Time,
     List,
+    ListSheets,
+    /// writes the input and the lines of crates/replay_runs to a folder
+    Runs(String),
 }
 
 struct Arguments {
@@ -99,6 +105,8 @@ fn arguments() -> Option<Arguments> {
             "--only" => all.only = words.next()?,
             "--time" => all.task = Task::Time,
             "--list" => all.task = Task::List,
+            "--list-sheets" => all.task = Task::ListSheets,
+            "--runs" => all.task = Task::Runs(words.next()?),
             _ => return None,
         }
     }
@@ -107,13 +115,15 @@ fn arguments() -> Option<Arguments> {
 
 fn main() {
     let Some(Arguments { task, scale, only }) = arguments() else {
-        eprintln!("usage: compare/run [FOLDER] [--seed N] [--count N] [--only WORD] [--time | --list]");
+        eprintln!("usage: compare/run [FOLDER] [--seed N] [--count N] [--only WORD] [--time | --list | --list-sheets | --runs FOLDER]");
         exit(2);
     };
     match task {
         Task::Compare => compare(scale, &only),
         Task::Time => time(scale.seed),
         Task::List => list::print(&functions(), scale.seed),
+        Task::ListSheets => list_sheets::print(),
+        Task::Runs(folder) => runs::write(&folder, scale.seed),
     }
 }
 

@@ -261,6 +261,17 @@ pub fn most(rng: &mut Rng) -> Content {
     c
 }
 
+/// Unused vertices and triangles that stand there twice, until there are so many.
+pub fn fill_up(rng: &mut Rng, c: &mut Content, vertices: usize, triangles: usize) {
+    while c.n() < vertices {
+        c.vertices.extend([unit(rng), unit(rng)]);
+        c.tags.push(rng.pick(&[0, 1, 2]));
+    }
+    while c.t() < triangles {
+        duplicate(rng, c);
+    }
+}
+
 // ---- tags
 
 fn tag_any(rng: &mut Rng, c: &mut Content) {

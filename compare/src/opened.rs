@@ -3,9 +3,9 @@
 use crate::cases::{same, same_floats, same_lists, Verdict};
 use crate::content::Content;
 use crate::floats::canon;
-use crate::machine::{needs, Machine};
+use crate::machine::{needs, Call, Machine};
 use crate::rattle_run as rattle;
-use crate::rattle_run::{Buffers, Call, Layout, Record};
+use crate::rattle_run::{Buffers, Layout, Record};
 use crate::rng::Rng;
 use crate::stand_ins::Point;
 use crate::uninterrupted::{length, Run, Shown};

@@ -11,14 +11,14 @@ use crate::originals;
 use crate::originals::gradient::compute_gradient_field;
 use crate::originals::pde::trace_spiral;
 #[cfg(run)]
-use crate::rattle_run::Call;
+use crate::machine::Call;
 use crate::rng::Rng;
 use crate::stand_ins::Point;
 use crate::trial::Sort;
 use crate::uninterrupted::{Run, State};
 
 /// The original has no room and may put down millions of points in one crossing. It is asked only where the path has no more than these.
-const MOST_POINTS: usize = 100_000;
+pub const MOST_POINTS: usize = 100_000;
 
 pub fn paths() -> Cases {
     Cases {
@@ -210,10 +210,12 @@ fn judge(rng: &mut Rng, run: &Run, solved: State, field: Option<&[f64]>, tally: 
     tally.note(as_original(run, &last, &free).and_then(|()| as_library(rng, run, field, &last)));
 }
 
-/// The run and the library.
+/// The run and the library, open, advanced to the last place. Another field than the solver's is no sheet's: it is put into the work at place 0, where the
+/// contract of an advance, which holds for every work, says that the passes go on from it.
 #[cfg(run)]
-fn as_library(rng: &mut Rng, run: &Run, field: Option<&[f64]>, last: &State) -> Verdict {
+pub fn as_library(rng: &mut Rng, run: &Run, field: Option<&[f64]>, last: &State) -> Verdict {
     let mut opened = Opened::new(rng, run.content)?;
+    opened.has_matrix(run)?;
     if let Some(x) = field {
         let at = opened.layout.field;
         opened.buffers.floats[at..at + x.len()].copy_from_slice(x);
@@ -224,12 +226,12 @@ fn as_library(rng: &mut Rng, run: &Run, field: Option<&[f64]>, last: &State) -> 
 }
 
 #[cfg(not(run))]
-fn as_library(_: &mut Rng, _: &Run, _: Option<&[f64]>, _: &State) -> Verdict {
+pub fn as_library(_: &mut Rng, _: &Run, _: Option<&[f64]>, _: &State) -> Verdict {
     Ok(())
 }
 
 /// The run, the same with room enough, and the original.
-fn as_original(run: &Run, last: &State, free: &State) -> Verdict {
+pub fn as_original(run: &Run, last: &State, free: &State) -> Verdict {
     let mesh = originals::mesh(run.content);
     let gradients = compute_gradient_field(&mesh, &last.x)?;
     same_points("gradients", &last.gradients, &gradients)?;

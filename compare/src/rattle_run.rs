@@ -1,6 +1,7 @@
 //! The Rattle run, by the C names of crates/exports. No struct or enum crosses the border: a record is a list of whole numbers and one of reals.
 
 use crate::floats::canon;
+use crate::machine::Call;
 
 mod exported {
     extern "C" {
@@ -19,11 +20,11 @@ mod exported {
             reals_len: usize,
         ) -> u32;
         pub fn cintrok_call(
-            call: u32,
+            number: u32,
             k: u32,
             floats: *mut f64,
             floats_len: usize,
-            words: *mut u32,
+            words: *const u32,
             words_len: usize,
             path: *mut f64,
             path_len: usize,
@@ -39,8 +40,6 @@ mod exported {
             wholes_len: usize,
             reals: *const f64,
             reals_len: usize,
-            out: *mut f64,
-            out_len: usize,
         ) -> usize;
         pub fn cintrok_length(path: *const f64, path_len: usize) -> f64;
         pub fn cintrok_layout(n: usize, t: usize, out: *mut u64, out_len: usize) -> u32;
@@ -87,14 +86,6 @@ pub struct Buffers {
     pub path: Vec<f64>,
 }
 
-#[derive(Clone, Copy, PartialEq, Debug)]
-pub enum Call {
-    Advance(u32),
-    Back(u32),
-    Mark,
-    Return,
-}
-
 /// Opens a sheet on the fronts of the buffers that are lent.
 pub fn open(sheet: &[u8], b: &mut Buffers, lent: [usize; 3]) -> Result<Record, u32> {
     let mut wholes = [0; WHOLES];
@@ -123,12 +114,7 @@ pub fn open(sheet: &[u8], b: &mut Buffers, lent: [usize; 3]) -> Result<Record, u
 
 /// Makes a call, lent the fronts of the buffers; the refusal's number, or 0.
 pub fn call(record: &mut Record, call: Call, b: &mut Buffers, lent: [usize; 3]) -> u32 {
-    let (kind, k) = match call {
-        Call::Advance(k) => (0, k),
-        Call::Back(k) => (1, k),
-        Call::Mark => (2, 0),
-        Call::Return => (3, 0),
-    };
+    let [kind, k] = call.numbers();
     let mut reals = record.reals.map(f64::from_bits);
     let said = unsafe {
         exported::cintrok_call(
@@ -153,21 +139,8 @@ pub fn call(record: &mut Record, call: Call, b: &mut Buffers, lent: [usize; 3]) 
 /// The points that are handed back as a part of the path buffer, x and y in turn.
 pub fn points(record: &Record, path: &[f64]) -> Vec<f64> {
     let reals = record.reals.map(f64::from_bits);
-    let mut out = vec![0.0; path.len()];
-    let length = unsafe {
-        exported::cintrok_points(
-            path.as_ptr(),
-            path.len(),
-            record.wholes.as_ptr(),
-            WHOLES,
-            reals.as_ptr(),
-            REALS,
-            out.as_mut_ptr(),
-            out.len(),
-        )
-    };
-    out.truncate(length);
-    out
+    let count = unsafe { exported::cintrok_points(path.as_ptr(), path.len(), record.wholes.as_ptr(), WHOLES, reals.as_ptr(), REALS) };
+    path[..count].to_vec()
 }
 
 pub fn length(path: &[f64]) -> f64 {

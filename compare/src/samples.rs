@@ -40,7 +40,7 @@ p 3fe0000000000000 3ff199999999999a
 p 3fe0000000000000 3ff4cccccccccccd
 ";
 
-fn s1_content() -> Content {
+pub fn s1_content() -> Content {
     Content {
         vertices: vec![0.0, 0.0, 2.0, 0.0, 0.0, 2.0],
         triangles: vec![0, 1, 2],
@@ -80,7 +80,7 @@ fn last(content: &Content, check: impl Fn(&Shown) -> Verdict) -> Verdict {
 fn as_library(run: &Run, at: Shown) -> Verdict {
     let mut rng = crate::rng::Rng::new(1, "samples", 0);
     let mut opened = crate::opened::Opened::new(&mut rng, run.content)?;
-    same("refusal", 0, opened.call(crate::rattle_run::Call::Advance(u32::MAX)))?;
+    same("refusal", 0, opened.call(crate::machine::Call::Advance(u32::MAX)))?;
     opened.shows(run, at)
 }
 
@@ -126,7 +126,7 @@ fn s4() -> Verdict {
 #[cfg(run)]
 fn s5() -> Verdict {
     use crate::machine::{needs, Machine};
-    use crate::rattle_run::Call::{Advance, Back, Mark, Return};
+    use crate::machine::Call::{Advance, Back, Mark, Return};
     let content = s1_content();
     let run = Run::new(&content);
     let trace = crate::uninterrupted::Trace::new(&run);

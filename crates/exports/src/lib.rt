@@ -1,5 +1,6 @@
 // The library's functions under C names, for programs that compare them with the Rust. A point is passed as its two numbers.
 
+mod runs;
 mod sheets;
 
 use plane::Hit;

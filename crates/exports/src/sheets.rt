@@ -8,13 +8,13 @@ use sheet::Header;
 use sheet::Written;
 
 // Stores that leave out what has no place.
-fn put(out: &mut [u64], at: usize, v: u64) {
+pub fn put(out: &mut [u64], at: usize, v: u64) {
     if at < out.len() {
         out[at] = v;
     }
 }
 
-fn put_float(out: &mut [f64], at: usize, x: f64) {
+pub fn put_float(out: &mut [f64], at: usize, x: f64) {
     if at < out.len() {
         out[at] = x;
     }

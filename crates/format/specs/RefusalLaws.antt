@@ -39,6 +39,13 @@ pub then-assoc : (a b c : ℕ) → (a then b) then c ≡ a then (b then c)
 then-assoc zero b c = refl
 then-assoc (suc a) b c = refl
 
+-- a step that refuses ends it, and where it does not the next one decides
+pub refused-first : {a : ℕ} (h b : ℕ) → h ≡ a → (h ≡ 0 → ⊥) → h ≡ (a then b)
+refused-first h b e z = e ∙ sym (then-first b (λ y. z (e ∙ y)))
+
+pub decided-second : {a b : ℕ} (h r : ℕ) → h ≡ a → h ≡ 0 → r ≡ b → r ≡ (a then b)
+decided-second {a} {b} h r e z p = p ∙ sym (then-second b (sym e ∙ z))
+
 -- ---- a test
 
 pub passes : (t : Bool) (k : ℕ) → pick t 0 (suc k) ≡ 0 → t ≡ true
@@ -136,3 +143,15 @@ pub each-map : {A B : Type 0} (f : B → ℕ) (g : A → B) (xs : List A) → ea
 unfolding each
 each-map f g [] = refl
 each-map f g (x ∷ xs) = ap (λ (k : ℕ). f (g x) then k) (each-map f g xs)
+
+-- ---- the same, where r is what was found to refuse the i-th element
+
+module _ {A : Type 0} (f : A → ℕ) (xs : List A) (d : A) where
+  pub list-more : (i r : ℕ) → Passed f xs i → i < length xs → r ≡ f (getD xs i d) → r ≡ 0 → Passed f xs (i + 1)
+  list-more i r p h e z = passed-more f xs d i p h (sym e ∙ z)
+
+  pub list-until : (i r : ℕ) → Passed f xs i → i < length xs → r ≡ f (getD xs i d) → (r ≡ 0 → ⊥) → r ≡ each f xs
+  list-until i r p h e z = e ∙ sym (passed-until f xs d i p h (λ y. z (e ∙ y)))
+
+  pub list-all : (i : ℕ) → Passed f xs i → length xs ≤ i → 0 ≡ each f xs
+  list-all i p h = sym (passed-all f xs i p h)

@@ -4,16 +4,16 @@ use mathlib.Core.Path.{_≡_, refl, sym, ap, ap₂, _∙_, subst}
 use mathlib.Core.Bool.{Bool, true, false}
 use mathlib.Core.List.{List, [], _∷_, _++_, append-assoc}
 use native.Mathlib.Omega.{arith}
-use borrow.Author.Tests.{leb-true, le-leb, eqb-true, eq-eqb}
+use borrow.Author.Tests.{leb-true, le-leb, lt-leb, eqb-true, eq-eqb, ne-eqb}
 use lib.Dec.{leb, eqb}
 use lib.ListN.{length, take, drop, length-append, length-drop, take-append-drop}
-use lib.Seq.{drop-at, take-add}
+use lib.Seq.{drop-at, take-add, take-all}
 use Rattle.binary64.specs.Number.{pick}
 use Rattle.format.specs.Bytes.{Bytes, number, bytes, numbers, allBytes}
 use Rattle.format.specs.Refusal.{_then_, over, unlike}
 use Rattle.format.specs.Sheet.{section, count, behind, cut, headFault}
 use Rattle.format.specs.BytesLaws.{Under, bytes-drop, length-bytes, length-allBytes, number-bytes, bytes-number, numbers-allBytes, allBytes-numbers}
-use Rattle.format.specs.RefusalLaws.{Neither, neither, then-none, passes, pick-true}
+use Rattle.format.specs.RefusalLaws.{Neither, neither, then-none, passes, pick-true, pick-false}
 
 -- ---- counts
 
@@ -28,6 +28,20 @@ unlike-eq {e} {k} h = eqb-true k e (passes (eqb k e) 2 h)
 
 pub eq-unlike : {e k : ℕ} → k ≡ e → unlike e k ≡ 0
 eq-unlike {e} {k} h = pick-true 0 3 (eq-eqb k e h)
+
+-- a count, and what follows it
+
+pub over-refuses : (limit k b : ℕ) → limit < k → 2 ≡ (over limit k then b)
+over-refuses limit k b h = sym (ap (λ (n : ℕ). n then b) (pick-false 0 2 (lt-leb k limit h)))
+
+pub over-passes : (limit k r b : ℕ) → k ≤ limit → r ≡ b → r ≡ (over limit k then b)
+over-passes limit k r b h e = e ∙ sym (ap (λ (n : ℕ). n then b) (pick-true 0 2 (le-leb k limit h)))
+
+pub unlike-refuses : (e k b : ℕ) → (k ≡ e → ⊥) → 3 ≡ (unlike e k then b)
+unlike-refuses e k b h = sym (ap (λ (n : ℕ). n then b) (pick-false 0 3 (ne-eqb k e h)))
+
+pub unlike-passes : (e k r b : ℕ) → k ≡ e → r ≡ b → r ≡ (unlike e k then b)
+unlike-passes e k r b h p = p ∙ sym (ap (λ (n : ℕ). n then b) (pick-true 0 3 (eq-eqb k e h)))
 
 -- ---- a section of a sheet, before its items
 
@@ -50,6 +64,14 @@ head-sound rule size s h =
 
 pub head-none : {rule : ℕ → ℕ} {size : ℕ} {s : List ℕ} → Head rule size s → headFault rule size s ≡ 0
 head-none {rule} {size} {s} h = then-none (not-cut 4 s (h .four)) (then-none (h .counted) (not-cut (4 + size * count s) s (h .whole)))
+
+-- the part of a list from an index on, and the part behind a section
+pub part-from : {A : Type 0} (k : ℕ) (s : List A) → take (length s - k) (drop k s) ≡ drop k s
+part-from k s = take-all (length s - k) (drop k s) (omega (arith, length-drop k s))
+
+pub part-behind : (size n : ℕ) (s : List ℕ) → n ≡ count s → take (length s - (4 + size * n)) (drop (4 + size * n) s) ≡ behind size s
+unfolding behind
+part-behind size n s e = part-from (4 + size * n) s ∙ ap (λ (k : ℕ). drop (4 + size * k) s) e
 
 -- ---- from bytes and back
 

@@ -6,17 +6,17 @@ use mathlib.Core.List.{List, [], _∷_, _++_, map}
 use native.Mathlib.Omega.{arith}
 use borrow.Author.Tests.{eqb-true, eq-eqb}
 use lib.Dec.{eqb}
-use lib.ListN.{length, drop, length-map, length-drop}
+use lib.ListN.{length, drop, length-append, length-map, length-drop}
 use lib.Seq.{drop-drop}
-use lib.Ieee.{Float, binary64, ofBits}
+use lib.Ieee.{Float, binary64, ofBits, toBits}
 use Rattle.binary64.specs.Number.{pick}
 use Rattle.format.specs.Bytes.{number, numbers}
 use Rattle.format.specs.Content.{Content, vertexCount, triangleCount, maxVertices, maxTriangles, maxSettings}
 use Rattle.format.specs.Refusal.{_then_, each, over, unlike, vertexFault, neighbourFault, tagFault, coordinateFault, settingFault, present, missing, refusalOf}
-use Rattle.format.specs.Sheet.{count, behind, from2, from3, from4, from5, leftover, verticesIn, trianglesIn, neighboursIn, tagsIn, itemsIn, contentOf, inTurn, headFault, verticesFault, trianglesFault, neighboursFault, tagsFault, settingsFault, faultOf, Parsed, accepted, refused, decide, parse}
+use Rattle.format.specs.Sheet.{itemOf, section, bytesOf, count, behind, from2, from3, from4, from5, leftover, verticesIn, trianglesIn, neighboursIn, tagsIn, itemsIn, contentOf, inTurn, headFault, verticesFault, trianglesFault, neighboursFault, tagsFault, settingsFault, faultOf, Parsed, accepted, refused, decide, parse}
 use Rattle.format.specs.BytesLaws.{length-numbers}
 use Rattle.format.specs.RefusalLaws.{Neither, neither, then-none, passes, pick-true}
-use Rattle.format.specs.SectionLaws.{Head, head-sound, head-none, over-le, le-over, unlike-eq, eq-unlike}
+use Rattle.format.specs.SectionLaws.{Head, head-sound, head-none, length-section, over-le, le-over, unlike-eq, eq-unlike}
 
 -- ---- a content
 
@@ -133,6 +133,28 @@ fault-none h =
     (then-none (then-none (head-none (h .settings)) (h .items))
     (then-none (pick-true 0 1 (eq-eqb _ _ (h .whole))) (h .given))))))
 
+-- ---- what a section that is not refused tells
+
+pub vertices-head : (s : List ℕ) → verticesFault s ≡ 0 → Head (over maxVertices) 16 s
+unfolding verticesFault
+vertices-head s h = head-sound (over maxVertices) 16 s (neither (headFault (over maxVertices) 16 s) _ h .first)
+
+pub triangles-head : (n : ℕ) (s : List ℕ) → trianglesFault n s ≡ 0 → Head (over maxTriangles) 12 s
+unfolding trianglesFault
+triangles-head n s h = head-sound (over maxTriangles) 12 s (neither (headFault (over maxTriangles) 12 s) _ h .first)
+
+pub neighbours-head : (t : ℕ) (s : List ℕ) → neighboursFault t s ≡ 0 → Head (unlike (3 * t)) 4 s
+unfolding neighboursFault
+neighbours-head t s h = head-sound (unlike (3 * t)) 4 s (neither (headFault (unlike (3 * t)) 4 s) _ h .first)
+
+pub tags-head : (n : ℕ) (s : List ℕ) → tagsFault n s ≡ 0 → Head (unlike n) 1 s
+unfolding tagsFault
+tags-head n s h = head-sound (unlike n) 1 s (neither (headFault (unlike n) 1 s) _ h .first)
+
+pub settings-head : (s : List ℕ) → settingsFault s ≡ 0 → Head (over maxSettings) 9 s
+unfolding settingsFault
+settings-head s h = head-sound (over maxSettings) 9 s (neither (headFault (over maxSettings) 9 s) _ h .first)
+
 -- ---- what is read
 
 pub length-vertices : (s : List ℕ) → length (verticesIn s) ≡ 2 * count s
@@ -173,3 +195,13 @@ reads b c h = go (faultOf b) refl h
 pub accepts : (b : List ℕ) (c : Content) → faultOf b ≡ 0 → contentOf b ≡ c → parse b ≡ accepted c
 unfolding parse
 accepts b c e f = ap₂ decide e f
+
+-- ---- what is written
+
+pub length-bytesOf : (c : Content) → length (bytesOf c)
+    ≡ 20 + 8 * length (c .vertices) + 4 * length (c .triangles) + 4 * length (c .neighbours) + length (c .tags) + 9 * length (present (c .settings))
+unfolding bytesOf
+length-bytesOf c =
+    let a : length (map (toBits binary64) (c .vertices)) ≡ length (c .vertices) = length-map (c .vertices) (toBits binary64) in
+    let b : length (map itemOf (present (c .settings))) ≡ length (present (c .settings)) = length-map (present (c .settings)) itemOf in
+    simp (length-append, length-section) (omega arith)

@@ -5,49 +5,56 @@ ghost use lib.Ieee.{binary64, nanBits, ofBits};
 ghost use Rattle.binary64.specs.Number.{pick};
 ghost use Rattle.format.specs.Refusal.{finite, positive, realFault, coordinateFault, wholeFault, vertexFault, neighbourFault, tagFault};
 
+// outside its set
+const OTHER: u32 = 4;
+
+const NOT_A_NUMBER: u32 = 6;
+
+// infinite, or outside its range
+const OUTSIDE: u32 = 7;
+
 pub fn vertex_fault(x: u32, n: usize) -> u32
     ensures { λ r. ⌜ r ≡ vertexFault n x ⌝ }
 {
-    if (x as usize) < n { 0 } else { 4 }
+    if (x as usize) < n { 0 } else { OTHER }
 }
 
 pub fn neighbour_fault(x: u32, t: usize) -> u32
     ensures { λ r. ⌜ r ≡ neighbourFault t x ⌝ }
 {
-    if x == 4294967295 {
-        0
-    } else {
-        vertex_fault(x, t)
+    if x == crate::NO_NEIGHBOUR {
+        return 0;
     }
+    if (x as usize) < t { 0 } else { OTHER }
 }
 
 pub fn tag_fault(x: u8) -> u32
     ensures { λ r. ⌜ r ≡ tagFault x ⌝ }
 {
-    if x <= 2 { 0 } else { 4 }
+    if x <= crate::MAX_TAG { 0 } else { OTHER }
 }
 
 pub fn whole_fault(low: u64, high: u64, v: u64) -> u32
     ensures { λ r. ⌜ r ≡ wholeFault low high v ⌝ }
 {
     if v < low {
-        return 7;
+        return OUTSIDE;
     }
-    if v <= high { 0 } else { 7 }
+    if v <= high { 0 } else { OUTSIDE }
 }
 
 pub fn coordinate_fault(x: f64) -> u32
     ensures { λ r. ⌜ r ≡ coordinateFault x ⌝ }
 {
     if x != x {
-        return 6;
+        return NOT_A_NUMBER;
     }
     if -1048576.0 <= x {
         if x <= 1048576.0 {
             return 0;
         }
     }
-    7
+    OUTSIDE
 }
 
 // Finite, as a tolerance has to be.
@@ -56,14 +63,14 @@ pub fn finite_fault(x: f64) -> u32
 {
     let infinity = f64::from_bits(0x7ff0000000000000);
     if x != x {
-        return 6;
+        return NOT_A_NUMBER;
     }
     if x < infinity {
         if -infinity < x {
             return 0;
         }
     }
-    7
+    OUTSIDE
 }
 
 // Finite and above 0, as a step has to be.
@@ -74,7 +81,7 @@ pub fn step_fault(x: f64) -> u32
     if early != 0 {
         return early;
     }
-    if 0.0 < x { 0 } else { 7 }
+    if 0.0 < x { 0 } else { OUTSIDE }
 }
 
 // Whether a pattern is a NaN's: its exponent field is all ones and its digits are not 0.
@@ -89,7 +96,7 @@ pub fn pattern_fault(bits: u64) -> u32
     ensures { λ r. ⌜ r ≡ coordinateFault (ofBits binary64 bits) ⌝ }
 {
     if nan_pattern(bits) {
-        return 6;
+        return NOT_A_NUMBER;
     }
     coordinate_fault(f64::from_bits(bits))
 }

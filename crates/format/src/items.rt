@@ -34,12 +34,12 @@ pub fn setting_fault(s: Setting) -> u32
     ensures { λ r. ⌜ r ≡ settingFault s ⌝ }
 {
     match s {
-        Setting::Limit(v) => crate::faults::whole_fault(0, 100000, v),
+        Setting::Limit(v) => crate::faults::whole_fault(0, crate::MAX_LIMIT, v),
         Setting::Tolerance(x) => crate::faults::finite_fault(x),
         Setting::Step(x) => crate::faults::step_fault(x),
         Setting::StartX(x) => crate::faults::coordinate_fault(x),
         Setting::StartY(x) => crate::faults::coordinate_fault(x),
-        Setting::Room(v) => crate::faults::whole_fault(1, 1000000, v),
+        Setting::Room(v) => crate::faults::whole_fault(1, crate::MAX_ROOM, v),
         Setting::Unknown => 5,
         Setting::NotANumber => 6,
     }

@@ -3,6 +3,21 @@ pub mod bytes;
 pub mod faults;
 pub mod items;
 
+pub const MAX_VERTICES: usize = 4096;
+
+pub const MAX_TRIANGLES: usize = 8192;
+
+pub const MAX_SETTINGS: usize = 6;
+
+pub const MAX_TAG: u8 = 2;
+
+pub const MAX_LIMIT: u64 = 100000;
+
+pub const MAX_ROOM: u64 = 1000000;
+
+// −1 as a u32
+pub const NO_NEIGHBOUR: u32 = 4294967295;
+
 // A setting that is a whole number.
 pub enum Whole {
     Absent,

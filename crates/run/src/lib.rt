@@ -1,16 +1,19 @@
 // The run: opening a sheet, the four calls, and what they show.
-mod gate;
-pub mod open;
+mod parts;
+mod path;
+mod replaying;
 
-use work::Run;
-
-// refused is 0, or the number of the refusal; then run is the record as it was.
-pub struct Answer {
-    pub refused: u32,
-    pub run: Run,
-}
-
-pub enum Opened {
-    Refused(u32),
-    Open(Run),
-}
+pub use calls::advance;
+pub use calls::back;
+pub use calls::mark;
+pub use calls::return_to_mark;
+pub use image::Answer;
+pub use image::Opened;
+pub use opening::open;
+pub use parts::field;
+pub use parts::gradients;
+pub use parts::norms;
+pub use path::length;
+pub use path::points;
+pub use replaying::make;
+pub use replaying::replay;

@@ -13,15 +13,15 @@ use Rattle.format.specs.Bytes.{number}
 use Rattle.format.specs.Content.{Content, maxVertices, maxTriangles, maxSettings}
 use Rattle.format.specs.Refusal.{_then_, over, unlike, missing}
 use Rattle.format.specs.Sheet.{count, behind, from2, from3, from4, from5, leftover, itemsIn, itemSetting, noSettings, gathered, contentOf, verticesFault, trianglesFault, neighboursFault, tagsFault, settingsFault, faultOf, Parsed, accepted, refused, decide, parse}
-use Rattle.format.specs.RefusalLaws.{Neither, neither, then-assoc, then-second, pick-true, pick-false}
+use Rattle.format.specs.RefusalLaws.{Neither, neither, then-assoc, then-second, refused-first, decided-second, pick-true, pick-false}
 use Rattle.format.specs.SectionLaws.{Head, over-le, unlike-eq}
-use Rattle.format.specs.SheetLaws.{vertex-count, triangle-count, length-behind, behind-drop}
+use Rattle.format.specs.SheetLaws.{vertices-head, triangles-head, neighbours-head, tags-head, settings-head, vertex-count, triangle-count, length-behind, behind-drop}
 use Rattle.sheet.specs.declared.Header.{Header}
 use Rattle.sheet.specs.declared.Checked.{Checked}
-use Rattle.sheet.specs.declared.sections.Items.{Items}
-use Rattle.sheet.specs.Answer.{headerBy, headerOf, checkedOf, meshFault, itemsBy, settingsRead, checkedBy, finished, Whole5}
-use Rattle.sheet.proofs.Steps as steps
-use Rattle.sheet.proofs.Steps.{refused-first, decided-second, vertices-head, triangles-head, neighbours-head, tags-head, settings-head}
+use Rattle.sections.specs.declared.Items.{Items}
+use Rattle.sheet.specs.Answer.{headerBy, headerOf, checkedOf, checkedBy, finished, Whole5}
+use Rattle.sections.specs.Steps.{meshFault, itemsBy, settingsRead}
+use Rattle.sheet.proofs.Answers as answers
 
 -- ---- the last tests
 
@@ -41,7 +41,7 @@ module _ (n t : ℕ) (st : Settings) (s : List ℕ) (m : ℕ) (e : m ≡ count s
 
   pub finish-missing : (k : ℕ) → length s ≡ 4 + 9 * m → k ≡ missing st → (k ≡ 0 → ⊥) → Checked.Refused k ≡ finished n t st s
   unfolding finished
-  finish-missing k h p z = steps.refused k (headerBy n t st) (p ∙ sym (then-second (missing st) (none-left h))) z
+  finish-missing k h p z = answers.refused k (headerBy n t st) (p ∙ sym (then-second (missing st) (none-left h))) z
 
   pub finish-whole : (k : ℕ) (r : Header) → length s ≡ 4 + 9 * m → k ≡ missing st → k ≡ 0 → r ≡ headerBy n t st → Checked.Accepted r ≡ finished n t st s
   unfolding finished
@@ -127,7 +127,7 @@ checked-by b = go (faultOf b)
     go (suc k) = refl
 
 pub check-mesh : (b : List ℕ) (k : ℕ) → k ≡ meshFault b → (k ≡ 0 → ⊥) → Checked.Refused k ≡ checkedOf (parse b)
-check-mesh b k e z = steps.refused k (headerOf (contentOf b)) (refused-first k _ e z ∙ sym (fault-steps b)) z ∙ sym (checked-by b)
+check-mesh b k e z = answers.refused k (headerOf (contentOf b)) (refused-first k _ e z ∙ sym (fault-steps b)) z ∙ sym (checked-by b)
 
 -- what section 5 answers
 pub record ItemsRefused (k a : ℕ) : Type 0 where
@@ -152,7 +152,7 @@ pub check-settings : (b : List ℕ) (m k : ℕ) → m ≡ meshFault b → m ≡ 
 unfolding settingsRead
 check-settings b m k e z p =
     let r : ItemsRefused k (settingsFault (from5 b)) = items-refused k _ _ p in
-    steps.refused k (headerOf (contentOf b)) (decided-second m k e z (refused-first k _ (r .number) (r .some)) ∙ sym (fault-steps b)) (r .some) ∙ sym (checked-by b)
+    answers.refused k (headerOf (contentOf b)) (decided-second m k e z (refused-first k _ (r .number) (r .some)) ∙ sym (fault-steps b)) (r .some) ∙ sym (checked-by b)
 
 pub settings-whole : (s : List ℕ) (st : Settings) (n t : ℕ) → n ≤ 4096 → t ≤ 8192 → Items.Read st ≡ settingsRead s → Whole5 n t s
 unfolding settingsRead

@@ -1,29 +1,16 @@
 -- What writing a sheet answers and leaves (document 01, Length, writer, program): the reader's refusals, then 8 where the buffer is shorter than the sheet. Definitions only.
 -- Assumes nothing.
-use Prim.Native.Nat.{ℕ, zero, suc, _+_, _*_, _/_, _≤_, _<_, _^_}
+use Prim.Native.Nat.{ℕ, zero, suc}
 use mathlib.Core.Path.{_≡_}
-use mathlib.Core.Bool.{Bool, true, false}
-use mathlib.Core.List.{List, [], _∷_, _++_}
-use lib.Dec.{leb, eqb}
+use mathlib.Core.List.{List, _++_}
+use lib.Dec.{leb}
 use lib.ListN.{length, drop}
-use lib.Ieee.{Float, binary64, toBits}
 use Rattle.binary64.specs.Number.{pick}
-use Rattle.format.specs.declared.Whole.{Whole}
-use Rattle.format.specs.declared.Real.{Real}
-use Rattle.format.specs.declared.Settings.{Settings}
-use Rattle.format.specs.declared.Setting.{Setting}
-use Rattle.format.specs.declared.Setting.the-variants.{Limit, Tolerance, Step, StartX, StartY, Room}
-use Rattle.format.specs.Content.{Content, vertexCount, triangleCount, maxVertices, maxTriangles}
-use Rattle.format.specs.Place.{placed}
-use Rattle.format.specs.Bytes.{allBytes}
-use Rattle.format.specs.Refusal.{_then_, each, over, unlike, coordinateFault, vertexFault, neighbourFault, tagFault, present, refusalOf}
+use Rattle.format.specs.Content.{Content}
+use Rattle.format.specs.Refusal.{_then_, refusalOf}
 use Rattle.format.specs.Sheet.{bytesOf}
 use Rattle.sheet.specs.declared.Written.{Written}
-
-abbrev pub contentBy : List Float → List ℕ → List ℕ → List ℕ → Settings → Content
-contentBy vs ts ns gs st = record { vertices = vs; triangles = ts; neighbours = ns; tags = gs; settings = st }
-
--- ---- a sheet that is written
+pub use Rattle.writing.specs.Write.{contentBy}
 
 -- what refuses a content with so much space
 unfoldable pub writeRefusal : Content → ℕ → ℕ
@@ -42,58 +29,3 @@ bufferBy (suc k) bytes out = out
 pub record Writes (c : Content) (out : List ℕ) (answer : Written) (last : List ℕ) : Type 0 where
   pub said : answer ≡ writtenBy (writeRefusal c (length out)) (length (bytesOf c))
   pub left : last ≡ bufferBy (writeRefusal c (length out)) (bytesOf c) out
-
--- ---- the steps of the refusal: a list by itself
-
-unfoldable pub verticesRefusal : List Float → ℕ
-verticesRefusal xs = over maxVertices (length xs / 2) then unlike (2 * (length xs / 2)) (length xs) then each coordinateFault xs
-
-unfoldable pub trianglesRefusal : ℕ → List ℕ → ℕ
-trianglesRefusal n xs = over maxTriangles (length xs / 3) then unlike (3 * (length xs / 3)) (length xs) then each (vertexFault n) xs
-
-unfoldable pub neighboursRefusal : ℕ → List ℕ → ℕ
-neighboursRefusal t xs = unlike (3 * t) (length xs) then each (neighbourFault t) xs
-
-unfoldable pub tagsRefusal : ℕ → List ℕ → ℕ
-tagsRefusal n xs = unlike n (length xs) then each tagFault xs
-
-unfoldable pub meshRefusal : List Float → List ℕ → List ℕ → List ℕ → ℕ
-meshRefusal vs ts ns gs =
-    verticesRefusal vs
-    then trianglesRefusal (length vs / 2) ts
-    then neighboursRefusal (length ts / 3) ns
-    then tagsRefusal (length vs / 2) gs
-
--- the setting of a kind
-abbrev pub wholeOf : ℕ → ℕ → Setting
-wholeOf kind v = pick (eqb kind 1) (Limit v) (Room v)
-
-abbrev pub realOf : ℕ → Float → Setting
-realOf kind x = pick (eqb kind 2) (Tolerance x) (pick (eqb kind 3) (Step x) (pick (eqb kind 4) (StartX x) (StartY x)))
-
--- ---- the steps of the writing
-
-abbrev pub patternOf : Real → Whole
-patternOf Real.Absent = Whole.Absent
-patternOf (Real.Given x) = Whole.Given (toBits binary64 x)
-
--- the item of a kind, where its value is given
-abbrev pub slotItem : ℕ → Whole → List ℕ
-slotItem kind Whole.Absent = []
-slotItem kind (Whole.Given v) = (kind + 256 * v) ∷ []
-
-abbrev pub oneIf : Bool → ℕ
-oneIf true = 1
-oneIf false = 0
-
-pub record PutsItem (kind : ℕ) (w : Whole) (at : ℕ) (out : List ℕ) (next : ℕ) (last : List ℕ) : Type 0 where
-  pub put : last ≡ placed out at (allBytes 9 (slotItem kind w))
-  pub goes : next ≡ at + 9 * length (slotItem kind w)
-
--- the counts are u32, and the sheet has room
-pub record Fits (c : Content) (space : ℕ) : Type 0 where
-  pub pairs : length (c .vertices) < 2 ^ 32
-  pub triples : length (c .triangles) < 2 ^ 32
-  pub edges : length (c .neighbours) < 2 ^ 32
-  pub tagged : length (c .tags) < 2 ^ 32
-  pub room : 20 + 8 * length (c .vertices) + 4 * length (c .triangles) + 4 * length (c .neighbours) + length (c .tags) + 9 * length (present (c .settings)) ≤ space

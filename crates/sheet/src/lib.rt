@@ -1,14 +1,12 @@
 // The archive's sheet (document 01, section Sheet): a sheet is checked, its items are handed out, and a sheet is written.
 pub mod items;
-mod refusing;
-mod sections;
-mod writing;
 
-use crate::sections::Items;
 use format::Settings;
+use sections::Items;
 ghost use mathlib.Core.Path.{_≡_};
 ghost use Prim.Native.Nat.{ℕ, _+_, _*_, _≤_, _<_};
 ghost use lib.ListN.{length};
+ghost use Rattle.format.specs.Content.{maxVertices, maxTriangles};
 ghost use Rattle.format.specs.Sheet.{parse};
 ghost use Rattle.sheet.specs.Answer.{headerBy, checkedOf, finished, Whole5};
 ghost use Rattle.sheet.specs.Write.{contentBy, Writes};
@@ -36,7 +34,7 @@ pub enum Written {
 }
 
 fn header_of(n: usize, t: usize, settings: Settings) -> Header
-    requires { ⌜ (n ≤ 4096) × (t ≤ 8192) ⌝ }
+    requires { ⌜ (n ≤ maxVertices) × (t ≤ maxTriangles) ⌝ }
     ensures { λ r. ⌜ r ≡ headerBy n t settings ⌝ }
 {
     Header {
@@ -55,7 +53,7 @@ fn finish(s: &[u8], n: usize, t: usize, settings: Settings) -> Checked
     requires { ⌜ Whole5 n t (now s) ⌝ }
     ensures { λ r. ⌜ r ≡ finished n t settings (now (s .entry)) ⌝ }
 {
-    let m = crate::sections::count(s);
+    let m = sections::count(s);
     if s.len() != 4 + 9 * m {
         return Checked::Refused(1);
     }
@@ -70,15 +68,15 @@ fn finish(s: &[u8], n: usize, t: usize, settings: Settings) -> Checked
 pub fn check_sheet(s: &[u8]) -> Checked
     ensures { λ r. ⌜ r ≡ checkedOf (parse (now (s .entry))) ⌝ }
 {
-    let mesh = crate::sections::mesh_fault(s);
+    let mesh = sections::mesh_fault(s);
     if mesh != 0 {
         return Checked::Refused(mesh);
     }
-    let n = crate::sections::count(s);
+    let n = sections::count(s);
     let t = format::bytes::u32_at(s, 4 + 16 * n) as usize;
     let at = 16 + 17 * n + 24 * t;
     let s5 = &s[at..];
-    let read = crate::sections::settings(s5);
+    let read = sections::settings(s5);
     match read {
         Items::Refused(k) => Checked::Refused(k),
         Items::Read(settings) => finish(s5, n, t, settings),
@@ -96,11 +94,17 @@ pub fn write_sheet(
 ) -> Written
     ensures { λ r. ⌜ Writes (contentBy (now (vertices .entry)) (now (triangles .entry)) (now (neighbours .entry)) (now (tags .entry)) settings) (now (out .entry)) r (now (out .exit)) ⌝ }
 {
-    let refused = crate::refusing::content_refusal(vertices, triangles, neighbours, tags, settings);
+    let refused = writing::refusing::content_refusal(
+        vertices,
+        triangles,
+        neighbours,
+        tags,
+        settings,
+    );
     if refused != 0 {
         return Written::Refused(refused);
     }
-    let m = crate::writing::present_count(settings);
+    let m = writing::putting::present_count(settings);
     let size = 20
         + 8 * vertices.len()
         + 4 * triangles.len()
@@ -110,6 +114,6 @@ pub fn write_sheet(
     if out.len() < size {
         return Written::Refused(8);
     }
-    crate::writing::put_sheet(vertices, triangles, neighbours, tags, settings, out);
+    writing::putting::put_sheet(vertices, triangles, neighbours, tags, settings, out);
     Written::Bytes(size)
 }

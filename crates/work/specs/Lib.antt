@@ -1,3 +1,10 @@
 pub mod Layout
 pub mod Memory
 pub mod Ready
+pub mod Record
+pub mod Kinds
+pub mod Dry
+pub mod Seek
+pub mod StandingLaws
+pub mod DryLaws
+pub mod SeekLaws

@@ -1,8 +1,15 @@
 // The work of a run in the three lent buffers: one pass, passes in a row, and the way to another place.
+pub mod dry;
+pub mod kinds;
 pub mod layout;
+pub mod pass;
+mod place;
+pub mod seek;
 
 use pde::Walk;
 use plane::Point;
+ghost use mathlib.Core.Path.{_≡_};
+ghost use Rattle.work.specs.Record.{newRun};
 
 // A given start.
 pub enum Given {
@@ -84,4 +91,17 @@ impl Run {
     pub const SPACING: f64 = 0.2;
     // Crossings for each triangle.
     pub const FACTOR: usize = 20;
+
+    // Place 0, where r·r is rs.
+    pub fn new(plan: Plan, rs: f64) -> Run
+        ensures { λ r. ⌜ r ≡ newRun plan rs ⌝ }
+    {
+        let stand = place::pathless(0, rs, 1, place::first_end(plan.limit));
+        Run {
+            plan,
+            stand,
+            mark: Mark::Nothing,
+            passes: 0,
+        }
+    }
 }

@@ -7,8 +7,9 @@ use Prim.Native.Nat.{ℕ, _+_, _*_, _-_, _≤_}
 use lib.ListN.{length, take, drop}
 use Rattle.format.specs.Bytes.{number}
 use Rattle.format.specs.Sheet.{from5}
-use Rattle.sheet.specs.Answer.{settingsRead, finished}
-use Rattle.sheet.proofs.Steps.{part-from}
+use Rattle.sections.specs.Steps.{settingsRead}
+use Rattle.sheet.specs.Answer.{finished}
+use Rattle.format.specs.SectionLaws.{part-from}
 use Rattle.sheet.proofs.Check.{Mesh, mesh, Places, places, second-fits, check-mesh, check-settings, settings-whole, check-last}
 use Rattle.sheet.proofs.check_sheet.Statement.{statement}
 use Rattle.sheet.proofs.check_sheet.Tie as tie

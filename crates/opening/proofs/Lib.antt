@@ -1,0 +1,3 @@
+pub mod LawsOpen
+pub mod LawsOpened
+pub mod LawsPlace

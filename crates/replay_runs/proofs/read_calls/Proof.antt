@@ -1,0 +1,56 @@
+-- `read_calls` meets its contract: the loop stays within the list. Assumes nothing.
+use Prim.Native.Nat.{_≤_, _-_}
+use mathlib.Core.Path.{_≡_}
+use lib.ListN.{length}
+use borrow.Author.Needs.{needs}
+use Rattle.replay_runs.proofs.read_calls.Statement.{statement}
+use Rattle.replay_runs.proofs.read_calls.Tie as tie
+
+abbrev Inv-loop : tie.InvT-loop
+Inv-loop bytes calls₀ i₀ i-end calls i = (i ≤ i-end) × (i-end ≤ length calls) × (length calls ≡ length calls₀)
+
+abbrev μ-loop : tie.MeasureT-loop
+μ-loop bytes calls₀ i₀ i-end calls i = i-end - i
+
+loop-holds : tie.Need-loop-holds Inv-loop μ-loop
+loop-holds c = search needs
+
+corner-requires : tie.Need-corner-requires Inv-loop μ-loop
+corner-requires c κs = search needs
+
+mul-calls : tie.Need-mul-calls Inv-loop μ-loop
+mul-calls c = search needs
+
+slice-write-calls : tie.Need-slice-write-calls Inv-loop μ-loop
+slice-write-calls c = search needs
+
+add-i : tie.Need-add-i Inv-loop μ-loop
+add-i c = search needs
+
+loop-less : tie.Need-loop-less Inv-loop μ-loop
+loop-less c = search needs
+
+loop-again : tie.Need-loop-again Inv-loop μ-loop
+loop-again c = search needs
+
+same-length : tie.Need-same-length Inv-loop μ-loop
+same-length c = search needs
+
+returns : tie.Need-returns Inv-loop μ-loop
+returns c = search needs
+
+pub read-calls-spec : {M : Type 1} → statement M
+read-calls-spec =
+    tie.close
+    (tie.spec
+    Inv-loop
+    μ-loop
+    loop-holds
+    corner-requires
+    mul-calls
+    slice-write-calls
+    add-i
+    loop-less
+    loop-again
+    same-length
+    returns)

@@ -1,0 +1,98 @@
+// A list of calls written as numbers, made one after the other from place 0.
+use image::Answer;
+use image::Opened;
+use work::Run;
+ghost use mathlib.Core.Path.{_≡_};
+ghost use Prim.Native.Nat.{_+_, _*_, _≤_, min};
+ghost use lib.ListN.{length};
+ghost use Rattle.image.specs.Calls.{buffers, Does};
+ghost use Rattle.image.specs.Replay.{callOf, lentAt, Turned, Performs, Replayed};
+
+fn least(a: usize, b: usize) -> usize
+    ensures { λ r. ⌜ r ≡ min a b ⌝ }
+{
+    if a <= b { a } else { b }
+}
+
+// The call that two numbers name.
+fn perform(
+    run: Run,
+    kind: u32,
+    k: u32,
+    floats: &mut [f64],
+    words: &[u32],
+    path: &mut [f64],
+) -> Answer
+    ensures { λ r. ⌜ Does (callOf kind k) run (buffers (now (floats .entry)) (now (words .entry)) (now (path .entry))) r (buffers (now (floats .exit)) (now (words .entry)) (now (path .exit))) ⌝ }
+{
+    match kind {
+        0 => calls::advance(run, k, floats, words, path),
+        1 => calls::back(run, k, floats, words, path),
+        2 => calls::mark(run, floats, words, path),
+        _ => calls::return_to_mark(run, floats, words, path),
+    }
+}
+
+// Call i, lent the front of each buffer that its numbers say.
+fn turn(
+    run: Run,
+    calls: &[u32],
+    i: usize,
+    floats: &mut [f64],
+    words: &[u32],
+    path: &mut [f64],
+) -> Answer
+    requires { ⌜ 5 * i + 5 ≤ length (now calls) ⌝ }
+    ensures { λ r. ⌜ Turned (lentAt (now (calls .entry)) i) run (buffers (now (floats .entry)) (now (words .entry)) (now (path .entry))) r (buffers (now (floats .exit)) (now (words .entry)) (now (path .exit))) ⌝ }
+{
+    let at = 5 * i;
+    let kind = calls[at];
+    let k = calls[at + 1];
+    let f = least(calls[at + 2] as usize, floats.len());
+    let w = least(calls[at + 3] as usize, words.len());
+    let p = least(calls[at + 4] as usize, path.len());
+    perform(run, kind, k, &mut floats[..f], &words[..w], &mut path[..p])
+}
+
+// A list of calls, five numbers each: kind, k, and how many floats, words and places of the path are lent. Each call's refusal goes to its place of said.
+pub fn make(
+    run: Run,
+    calls: &[u32],
+    said: &mut [u32],
+    floats: &mut [f64],
+    words: &[u32],
+    path: &mut [f64],
+) -> Run
+    ensures { λ r. ⌜ Performs (now (calls .entry)) run (now (said .entry)) (buffers (now (floats .entry)) (now (words .entry)) (now (path .entry))) r (now (said .exit)) (buffers (now (floats .exit)) (now (words .entry)) (now (path .exit))) ⌝ }
+{
+    let mut held = run;
+    let count = least(said.len(), calls.len() / 5);
+    for i in 0..count {
+        let a = turn(held, calls, i, floats, words, path);
+        said[i] = a.refused;
+        let next = a.run;
+        held = next;
+    }
+    held
+}
+
+// A sheet is opened and a list of calls made: what stands then is what the counter machine says, and what the uninterrupted run holds there.
+pub fn replay(
+    sheet: &[u8],
+    calls: &[u32],
+    said: &mut [u32],
+    floats: &mut [f64],
+    words: &mut [u32],
+    path: &mut [f64],
+) -> Opened
+    ensures { λ r. ⌜ Replayed (now (sheet .entry)) (now (calls .entry)) (now (said .entry)) (buffers (now (floats .entry)) (now (words .entry)) (now (path .entry))) r (now (said .exit)) (buffers (now (floats .exit)) (now (words .exit)) (now (path .exit))) ⌝ }
+{
+    let opened = opening::open(sheet, floats, words, path);
+    match opened {
+        Opened::Refused(k) => Opened::Refused(k),
+        Opened::Open(run) => {
+            let last = make(run, calls, said, floats, words, path);
+            Opened::Open(last)
+        }
+    }
+}

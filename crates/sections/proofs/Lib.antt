@@ -1,0 +1,4 @@
+pub mod Heads
+pub mod Reading
+pub mod Scan
+pub mod Steps

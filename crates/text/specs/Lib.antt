@@ -1,0 +1,5 @@
+pub mod Text
+pub mod Put
+pub mod PutLaws
+pub mod TextLaws
+pub mod Samples

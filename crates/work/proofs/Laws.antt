@@ -1,0 +1,175 @@
+-- Laws that the proofs of this crate share. Assumes nothing.
+use mathlib.Core.Path.{_≡_, refl, sym, ap, ap₂, _∙_, subst}
+use mathlib.Core.List.{List, [], _∷_, _++_}
+use Prim.Native.Nat.{ℕ, _+_, _-_, _*_, _≤_, _<_}
+use native.Mathlib.Omega.{arith}
+use native.Mathlib.Numerals.{add-one}
+use mathlib.Core.Bool.{Bool, true, false}
+use lib.Dec.{eqb}
+use Rattle.binary64.specs.Number.{pick}
+use lib.ListN.{length, getD, set, take, drop}
+use lib.Seq.{take-all, take-suc, take-suc-set, length-front}
+use lib.Ieee.{Float, nan}
+use Rattle.plane.specs.declared.Point.{Point}
+use Rattle.pde.specs.declared.Crossing.{Crossing}
+use Rattle.pde.specs.Path.{added}
+use Rattle.stretch.specs.Stretch.{splice}
+use Rattle.stretch.specs.StretchLaws.{splice-one, splice-snoc}
+use Rattle.model.specs.Run.{rule}
+use Rattle.work.specs.declared.Gives.{Gives}
+use Rattle.work.specs.declared.Plan.{Plan}
+use Rattle.work.specs.declared.Stand.{Stand}
+use Rattle.work.specs.declared.Step.{Step}
+use Rattle.work.specs.Layout.{atNorms}
+use Rattle.work.specs.Memory.{floatsGiven, pathGiven, stepOn, once, goes, Work, work, frontOf, beyondFront, Dry, dry}
+use Rattle.work.specs.Dry.{dryOf, dryAt, Dries, gain}
+use Rattle.work.specs.DryLaws.{step-length, dry-over, dry-forth}
+use Rattle.work.specs.StandingLaws.{step-standing, step-place, once-standing, once-place, goes-over}
+use Rattle.work.specs.Ready.{Ready, Standing, Roomy, Writable, Steps, Comes}
+
+-- two stores in a row
+pub put-two : {A : Type 0} (l : List A) (x y : A) → set (set l 0 x) 1 y ≡ splice l 0 (x ∷ y ∷ [])
+put-two l x y = sym (splice-snoc l 0 (x ∷ []) y ∙ ap (λ m. set m 1 y) (splice-one l 0 x))
+
+-- ---- what a pass gives, once it is written
+
+abbrev pub Delivered : Plan → Stand → Gives → List Float → List Float → List Float → List Float → Type 0
+Delivered plan s g m p m′ p′ = (m′ ≡ floatsGiven plan s g m) × (p′ ≡ pathGiven plan s g p)
+
+pub gave-nothing : (plan : Plan) (s : Stand) (g : Gives) (m p : List Float) → g ≡ Gives.Nothing → Delivered plan s g m p m p
+gave-nothing plan s g m p e = rw e (refl, refl)
+
+pub gave-norm : (plan : Plan) (s : Stand) (g : Gives) (m p : List Float) (v : Float) (k : ℕ) → g ≡ Gives.Norm v → k ≡ atNorms (plan .n) (plan .t)
+    → Delivered plan s g m p (set m (k + s .norms) v) p
+gave-norm plan s g m p v k e h = rw (e, h) (sym (splice-one m (atNorms (plan .n) (plan .t) + s .norms) v), refl)
+
+pub gave-first : (plan : Plan) (s : Stand) (g : Gives) (m p p′ : List Float) (q : Point) → g ≡ Gives.First q → p′ ≡ splice p 0 (q .x ∷ q .y ∷ []) → Delivered plan s g m p m p′
+gave-first plan s g m p p′ q e h = rw e (refl, h)
+
+pub gave-crossed : (plan : Plan) (s : Stand) (g : Gives) (m p p′ : List Float) (x : Crossing) → g ≡ Gives.Crossed x
+    → p′ ≡ splice p (2 * s .walk .points) (added (rule .spacing) (plan .room) (s .walk) x) → Delivered plan s g m p m p′
+gave-crossed plan s g m p p′ x e h = rw e (refl, h)
+
+-- ---- a pass on the whole buffers
+
+pub pick-small : (b : Bool) → pick {A = ℕ} b 0 1 ≤ 1
+pick-small true = omega arith
+pick-small false = omega arith
+
+pub writable : (plan : Plan) (words : List ℕ) (s : Stand) (m p : List Float) (l k : ℕ) → Ready plan words → Standing plan s → Roomy plan m p → l ≡ length m → k ≡ length p → Writable plan s l k
+writable plan words s m p l k r st ro e h = record {
+  n-most = r .n-most;
+  t-most = r .t-most;
+  norms-fit = omega (arith, st .norms-most, pick-small (eqb (s .end) 0), ro .floats-fit);
+  points-most = st .points-most;
+  room-least = r .room-least;
+  room-most = r .room-most;
+  path-fit = omega (arith, ro .path-fit);
+}
+
+-- a step keeps the front's length, and so that of the floats
+pub stepped-length : (plan : Plan) (words : List ℕ) (s : Stand) (m f : List Float) (d : Step) (k : ℕ) → Steps plan words (take k m) s d f → length (f ++ drop k m) ≡ length m
+stepped-length plan words s m f d k st = length-front m f k (ap length (st .front) ∙ step-length plan words (take k m) s)
+
+-- a step on the front, and what it gives written, is `once`
+pub once-comes : (plan : Plan) (words : List ℕ) (s : Stand) (m p f m′ p′ : List Float) (d : Step) (k : ℕ) → k ≡ atNorms (plan .n) (plan .t)
+    → Steps plan words (take k m) s d f → Delivered plan s (d .gives) (f ++ drop k m) p m′ p′ → Comes (once plan words (work m p s)) (d .stand) m′ p′
+unfolding once
+once-comes plan words s m p f m′ p′ d k e st dl =
+    let st′ : Steps plan words (frontOf plan m) s d f = rw e at st in
+    let dl′ : Delivered plan s (d .gives) (f ++ beyondFront plan m) p m′ p′ = rw e at dl in
+    record {
+      stand = st′ .stand;
+      floats = dl′ .0 ∙ ap₂ (λ g x. floatsGiven plan s g (x ++ beyondFront plan m)) (st′ .gives) (st′ .front);
+      path = dl′ .1 ∙ ap (λ g. pathGiven plan s g p) (st′ .gives);
+    }
+
+-- ---- passes in a row
+
+-- buffers as long are as roomy
+pub roomy-as-long : {plan : Plan} {m p : List Float} (m′ p′ : List Float) → Roomy plan m p → length m′ ≡ length m → length p′ ≡ length p → Roomy plan m′ p′
+roomy-as-long m′ p′ r e h = record { floats-fit = omega (arith, r .floats-fit); path-fit = omega (arith, r .path-fit) }
+
+-- what has come to w is w
+pub came : {w : Work} {s : Stand} {m p : List Float} → Comes w s m p → work m p s ≡ w
+came c = λ i. work (c .floats i) (c .path i) (c .stand i)
+
+pub comes-to : {w w′ : Work} {s : Stand} {m p : List Float} → w ≡ w′ → Comes w s m p → Comes w′ s m p
+comes-to {s = s} {m = m} {p = p} e c = subst (λ (v : Work). Comes v s m p) e c
+
+pub goes-none : (plan : Plan) (words : List ℕ) (s : Stand) (m p : List Float) → Comes (goes plan words 0 (work m p s)) s m p
+unfolding goes
+goes-none plan words s m p = record { stand = refl; floats = refl; path = refl }
+
+module _ (plan : Plan) (words : List ℕ) where
+  pub goes-more : (w : Work) (i : ℕ) (s s′ : Stand) (m p m′ p′ : List Float) → Comes (goes plan words i w) s m p → Comes (once plan words (work m p s)) s′ m′ p′
+      → Comes (goes plan words (i + 1) w) s′ m′ p′
+  unfolding goes
+  goes-more w i s s′ m p m′ p′ c d = rw add-one (comes-to (ap (once plan words) (came c)) d)
+
+  pub goes-ended : (w : Work) (i k : ℕ) (s : Stand) (m p : List Float) → Comes (goes plan words i w) s m p → i ≤ k → (s .walk .end ≡ 0 → ⊥) → Comes (goes plan words k w) s m p
+  goes-ended w i k s m p c h n = comes-to (sym (goes-over plan words w i k h (λ e. n (ap (λ (v : Stand). v .walk .end) (c .stand) ∙ e)))) c
+
+  pub goes-done : (w : Work) (i k : ℕ) (s : Stand) (m p : List Float) → Comes (goes plan words i w) s m p → i ≡ k → Comes (goes plan words k w) s m p
+  goes-done w i k s m p c e = comes-to (ap (λ (j : ℕ). goes plan words j w) e) c
+
+  -- the counts after a pass
+  pub came-standing : (s s′ : Stand) (m p m′ p′ : List Float) → Comes (once plan words (work m p s)) s′ m′ p′ → Ready plan words → Standing plan s → Standing plan s′
+  came-standing s s′ m p m′ p′ c r st = subst (Standing plan) (sym (c .stand)) (once-standing plan words (work m p s) r st)
+
+  pub came-place : (s s′ : Stand) (m p m′ p′ : List Float) → Comes (once plan words (work m p s)) s′ m′ p′ → s′ .place ≤ s .place + 1
+  came-place s s′ m p m′ p′ c = omega (arith, ap (λ (v : Stand). v .place) (c .stand), once-place plan words (work m p s))
+
+-- ---- a dry count
+
+-- one element more of the front is copied
+pub copied-more : (to from : List Float) (i : ℕ) → i < length to → i < length from → take i to ≡ take i from → take (i + 1) (set to i (getD from i nan)) ≡ take (i + 1) from
+copied-more to from i h k e = rw (add-one, take-suc-set, take-suc from i nan) (ap (λ (l : List Float). l ++ (getD from i nan ∷ [])) e)
+
+pub copied-all : (to from : List Float) (i k : ℕ) → take i to ≡ take i from → length to ≡ k → i ≡ k → to ≡ take k from
+copied-all to from i k e h j = sym (take-all i to (omega arith)) ∙ e ∙ ap (λ (n : ℕ). take n from) j
+
+dried : {d : Dry} {s : Stand} {f : List Float} → Dries d s f → dryOf f s ≡ d
+dried c = λ i. dryOf (c .front i) (c .stand i)
+
+dries-to : {d d′ : Dry} {s : Stand} {f : List Float} → d ≡ d′ → Dries d s f → Dries d′ s f
+dries-to {s = s} {f = f} e c = subst (λ (x : Dry). Dries x s f) e c
+
+module _ (plan : Plan) (words : List ℕ) where
+  pub dry-none : (s : Stand) (f : List Float) → Dries (dry plan words 0 (dryOf f s)) s f
+  unfolding dry
+  dry-none s f = record { stand = refl; front = refl }
+
+  pub dry-more : (d : Dry) (i : ℕ) (s : Stand) (f : List Float) (r : Step) (f′ : List Float) → Dries (dry plan words i d) s f → Steps plan words f s r f′
+      → Dries (dry plan words (i + 1) d) (r .stand) f′
+  unfolding dry
+  dry-more d i s f r f′ c st =
+      rw add-one (record {
+        stand = st .stand ∙ ap (λ (x : Dry). stepOn plan words (x .front) (x .stand) .stand) (dried c);
+        front = st .front ∙ ap (λ (x : Dry). stepOn plan words (x .front) (x .stand) .front) (dried c);
+      })
+
+  pub dry-ended : (d : Dry) (i k : ℕ) (s : Stand) (f : List Float) → Dries (dry plan words i d) s f → i ≤ k → (s .walk .end ≡ 0 → ⊥) → Dries (dry plan words k d) s f
+  dry-ended d i k s f c h n = dries-to (sym (dry-over plan words d i k h (λ e. n (ap (λ (v : Stand). v .walk .end) (c .stand) ∙ e)))) c
+
+  pub dry-done : (d : Dry) (i k : ℕ) (s : Stand) (f : List Float) → Dries (dry plan words i d) s f → i ≡ k → Dries (dry plan words k d) s f
+  dry-done d i k s f c e = dries-to (ap (λ (j : ℕ). dry plan words j d) e) c
+
+  -- the counts after a step
+  pub steps-standing : (f : List Float) (s : Stand) (r : Step) (f′ : List Float) → Steps plan words f s r f′ → Ready plan words → Standing plan s → Standing plan (r .stand)
+  steps-standing f s r f′ st h k = subst (Standing plan) (sym (st .stand)) (step-standing plan words f s h k)
+
+  pub steps-place : (f : List Float) (s : Stand) (r : Step) (f′ : List Float) → Steps plan words f s r f′ → r .stand .place ≤ s .place + 1
+  steps-place f s r f′ st = omega (arith, ap (λ (v : Stand). v .place) (st .stand), step-place plan words f s)
+
+-- the count, from where the passes on the copied front have come
+module _ (plan : Plan) (words : List ℕ) (k : ℕ) (m : List Float) (s : Stand) where
+  copied-front : (l : ℕ) (f : List Float) → l ≡ atNorms (plan .n) (plan .t) → f ≡ take l m → dryOf f s ≡ dryAt plan m s
+  copied-front l f e h = ap (λ (x : List Float). dryOf x s) (h ∙ ap (λ (n : ℕ). take n m) e)
+
+  pub gained : (l : ℕ) (f : List Float) (r : Stand) (f′ : List Float) → l ≡ atNorms (plan .n) (plan .t) → f ≡ take l m → Dries (dry plan words k (dryOf f s)) r f′
+      → r .place - s .place ≡ gain plan words k m s
+  gained l f r f′ e h d = ap (λ (v : Stand). v .place - s .place) (d .stand ∙ ap (λ (x : Dry). dry plan words k x .stand) (copied-front l f e h))
+
+pub gained-forth : (plan : Plan) (words : List ℕ) (k : ℕ) (s : Stand) (f : List Float) (r : Stand) (f′ : List Float) → Dries (dry plan words k (dryOf f s)) r f′ → s .place ≤ r .place
+gained-forth plan words k s f r f′ d = omega (arith, ap (λ (v : Stand). v .place) (d .stand), dry-forth plan words (dryOf f s) k)

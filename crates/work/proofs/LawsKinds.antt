@@ -1,0 +1,220 @@
+-- Laws of the kinds of pass that the proofs share. Assumes nothing.
+use mathlib.Core.Path.{_≡_, refl, sym, ap, ap₂, _∙_}
+use mathlib.Core.Logic.{inl}
+use mathlib.Core.Bool.{Bool}
+use mathlib.Core.List.{List}
+use Prim.Native.Nat.{ℕ, _+_, _*_, _≤_, _<_}
+use native.Mathlib.Omega.{arith}
+use borrow.Author.Tests.{eq-eqb, ne-eqb}
+use lib.Dec.{eqb, leb}
+use lib.ListN.{length, replicate}
+use lib.Ieee.{Float}
+use Rattle.binary64.specs.Constants.{plusZero}
+use Rattle.binary64.specs.Number.{pick}
+use Rattle.plane.specs.declared.Point.{Point}
+use Rattle.stretch.specs.Stretch.{splice}
+use Rattle.stretch.specs.StretchLaws.{length-part, splice-comm}
+use Rattle.sparse.specs.declared.Csr.{Csr}
+use Rattle.sparse.specs.Stored.{matrix}
+use Rattle.sparse.specs.ProductLaws.{length-rowsOf}
+use Rattle.mesh.specs.declared.Mesh.{Mesh}
+use Rattle.mesh.specs.Element.{flat}
+use Rattle.mesh.specs.Work.{verticesOf, trianglesOf, neighboursOf, tagsOf, Meshed}
+use Rattle.conjugate.specs.declared.Vectors.{Vectors}
+use Rattle.conjugate.specs.declared.Pass.{Pass}
+use Rattle.conjugate.specs.Solver.{Solve, Turn, halted, reached, moved}
+use Rattle.conjugate.specs.SolverLaws.{Long, after, after-long}
+use Rattle.conjugate.specs.Placed as Placed
+use Rattle.conjugate.specs.Placed.{InRow, Laid, Passed, storedAfter, placed}
+use Rattle.conjugate.specs.PlacedLaws.{halted-of, reached-of, moved-of}
+use Rattle.gradient.specs.Work as Gradients
+use Rattle.gradient.specs.Work.{gradientsIn}
+use Rattle.pde.specs.declared.Start.{Start}
+use Rattle.pde.specs.declared.Walk.{Walk}
+use Rattle.pde.specs.declared.Crossing.{Crossing}
+use Rattle.pde.specs.Start.{triangleContaining, pickStart}
+use Rattle.pde.specs.Path.{ended, walked}
+use Rattle.pde.specs.Work.{Fielded, Graded, fieldOf, gradientsOf, crossingIn}
+use Rattle.model.specs.Run.{rule, nowhere}
+use Rattle.work.specs.declared.Given.{Given}
+use Rattle.work.specs.declared.Gives.{Gives}
+use Rattle.work.specs.declared.Plan.{Plan}
+use Rattle.work.specs.declared.Stand.{Stand}
+use Rattle.work.specs.declared.Step.{Step}
+use Rattle.work.specs.Layout.{atX, atR, atP, atProduct, atGradients, atNorms, matrixAt, meshAt, vectorsAt}
+use Rattle.work.specs.Memory.{Stepped, vectorsIn, solvedStand, solvedStep, solveStep, setOut, walkedStand, startBy, beginStep, crossingOf, crossStep, nextOf, stepOn}
+use Rattle.work.specs.Ready.{Ready, Standing, Steps}
+use Rattle.work.specs.Kinds.{Searchable, Leads, gradientsPut, foundBy, lostBy}
+use Rattle.work.specs.StandingLaws.{turnOf, step-over}
+use Rattle.work.proofs.Laws.{pick-small}
+
+-- ---- a pass of solving
+
+solve-row : (plan : Plan) (l : ℕ) → atNorms (plan .n) (plan .t) ≤ l → InRow l (vectorsAt (plan .n) (plan .t)) (plan .n)
+solve-row plan l h = record { r-after = omega arith; p-after = omega arith; product-after = omega arith; ends = omega arith }
+
+-- the vectors lie behind the matrix
+pub solve-laid : (plan : Plan) (words : List ℕ) (l : ℕ) (m : Csr) (v : Vectors) → Ready plan words → l ≡ atNorms (plan .n) (plan .t) → m ≡ matrixAt (plan .n) (plan .t) → v ≡ vectorsAt (plan .n) (plan .t)
+    → Laid words l m v
+solve-laid plan words l m v r h em ev = rw (em, ev) (record { sound = r .sound; in-row = solve-row plan l (omega arith); values-fit = omega arith; values-outside = inl (omega arith) })
+
+-- what is left of a front, and the answer, by what the pass comes to
+module _ (plan : Plan) (f : List Float) (s : Stand) (turn : Turn) (f′ : List Float) (left : f′ ≡ storedAfter (plan .n) f (vectorsAt (plan .n) (plan .t)) turn) (s′ : Stand) where
+  leads-halted : turn ≡ halted → s′ ≡ solvedStand s (s .rs) (s .norms) 2 → Leads (solvedStep plan s f turn) (record { stand = s′; gives = Gives.Nothing }) f′
+  unfolding solvedStep storedAfter
+  leads-halted e es = let l = rw e at left in rw e (record { stand = es; gives = refl; front = l })
+
+  leads-reached : (x r : List Float) (norm : Float) → turn ≡ reached x r norm → s′ ≡ solvedStand s (s .rs) (s .norms + 1) 1
+      → Leads (solvedStep plan s f turn) (record { stand = s′; gives = Gives.Norm norm }) f′
+  unfolding solvedStep storedAfter
+  leads-reached x r norm e es = let l = rw e at left in rw e (record { stand = es; gives = refl; front = l })
+
+  -- the product is cleared before p is written, or after it
+  leads-moved : (u : Solve) (rs norm : Float) (end : ℕ) → turn ≡ moved u norm → u .rs ≡ rs → length (u .p) ≡ plan .n → end ≡ pick (leb (plan .limit) (s .norms)) 3 0
+      → s′ ≡ solvedStand s rs (s .norms + 1) end → Leads (solvedStep plan s f turn) (record { stand = s′; gives = Gives.Norm norm }) f′
+  unfolding solvedStep storedAfter placed
+  leads-moved u rs norm end e er el ee es =
+      let l = rw e at left in
+      rw (e, er, ← ee) (record { stand = es; gives = refl; front = l ∙ splice-comm _ (atP (plan .n) (plan .t)) (atProduct (plan .n) (plan .t)) (u .p) (replicate (plan .n) plusZero) (omega arith) })
+
+-- the pass as it stands in a front, at the plan's places
+module _ (plan : Plan) (words : List ℕ) (f : List Float) (s : Stand) (long : length f ≡ atNorms (plan .n) (plan .t)) where
+  abbrev vectors : Solve
+  vectors = vectorsIn (plan .n) (plan .t) f (s .rs)
+
+  abbrev turn : Turn
+  turn = turnOf plan words f s
+
+  vectors-long : Long (plan .n) vectors
+  vectors-long = record { x-long = length-part f (atX (plan .n) (plan .t)) (plan .n) (omega arith); r-long = length-part f (atR (plan .n) (plan .t)) (plan .n) (omega arith); p-long = length-part f (atP (plan .n) (plan .t)) (plan .n) (omega arith) }
+
+  after-is-long : Long (plan .n) (after vectors turn)
+  after-is-long = after-long (plan .n) flat (matrix words f (matrixAt (plan .n) (plan .t))) (plan .tolerance) vectors (length-rowsOf words f (matrixAt (plan .n) (plan .t)) (plan .n)) vectors-long
+
+  module _ (f′ : List Float) (m : Csr) (v : Vectors) (answer : Pass) (em : m ≡ matrixAt (plan .n) (plan .t)) (ev : v ≡ vectorsAt (plan .n) (plan .t))
+      (d : Passed f f′ (m .rows) v (Placed.turnOf words f m v flat (plan .tolerance) (s .rs)) answer) (s′ : Stand) where
+    passed : Passed f f′ (plan .n) (vectorsAt (plan .n) (plan .t)) turn answer
+    passed = rw (em, ev) at d
+
+    pub solve-halted : answer ≡ Pass.Halted → s′ ≡ solvedStand s (s .rs) (s .norms) 2 → Leads (solveStep plan words f s) (record { stand = s′; gives = Gives.Nothing }) f′
+    unfolding solveStep
+    solve-halted e es = leads-halted plan f s turn f′ (passed .left) s′ (halted-of turn (sym e ∙ passed .said)) es
+
+    pub solve-reached : (norm : Float) → answer ≡ Pass.Reached norm → s′ ≡ solvedStand s (s .rs) (s .norms + 1) 1
+        → Leads (solveStep plan words f s) (record { stand = s′; gives = Gives.Norm norm }) f′
+    unfolding solveStep
+    solve-reached norm e es = leads-reached plan f s turn f′ (passed .left) s′ (after vectors turn .x) (after vectors turn .r) norm (reached-of vectors turn norm (sym e ∙ passed .said)) es
+
+    pub solve-moved : (rs norm : Float) (end : ℕ) → answer ≡ Pass.Moved rs norm → end ≡ pick (leb (plan .limit) (s .norms)) 3 0 → s′ ≡ solvedStand s rs (s .norms + 1) end
+        → Leads (solveStep plan words f s) (record { stand = s′; gives = Gives.Norm norm }) f′
+    unfolding solveStep
+    solve-moved rs norm end e ee es =
+        let t = moved-of vectors turn rs norm (sym e ∙ passed .said) in
+        leads-moved plan f s turn f′ (passed .left) s′ (after vectors turn) rs norm end (t .0) (t .1) (after-is-long .p-long) ee es
+
+-- how many norms there are at most
+pub norms-few : {plan : Plan} {words : List ℕ} {s : Stand} → Ready plan words → Standing plan s → s .norms ≤ 100001
+norms-few {plan} {words} {s} r st = omega (arith, r .limit-most, st .norms-most, pick-small (eqb (s .end) 0))
+
+-- ---- the mesh, the field and the gradients in a front
+
+module _ (plan : Plan) (words : List ℕ) (f : List Float) (m : Mesh) (em : m ≡ meshAt (plan .n) (plan .t)) (h : Searchable plan words f) where
+  pub front-meshed : Meshed f words m
+  front-meshed = rw em (record { linked = h .ready .linked; vertices-fit = omega (arith, h .long) })
+
+  pub front-fielded : (u : ℕ) → u ≡ atX (plan .n) (plan .t) → Fielded f words m u
+  front-fielded u eu = let e : m .n ≡ plan .n = ap (λ (x : Mesh). x .n) em in record { meshed = front-meshed; field-fits = omega (arith, h .long) }
+
+  pub front-graded : (u at : ℕ) → u ≡ atX (plan .n) (plan .t) → at ≡ atGradients (plan .n) (plan .t) → Graded f words m u at
+  front-graded u at eu ea = let e : m .t ≡ plan .t = ap (λ (x : Mesh). x .t) em in record { fielded = front-fielded u eu; gradients-fit = omega (arith, h .long) }
+
+  pub front-laid : (u at : ℕ) → u ≡ atX (plan .n) (plan .t) → at ≡ atGradients (plan .n) (plan .t) → Gradients.Laid f words m u at
+  front-laid u at eu ea = rw (em, eu, ea) (record { meshed = rw em at front-meshed; vertices-before = omega arith; field-before = omega arith; fits = omega (arith, h .long) })
+
+-- a triangle of the plan is one of the mesh
+pub triangle-in-mesh : (m : Mesh) (plan : Plan) (k : ℕ) → m ≡ meshAt (plan .n) (plan .t) → k < plan .t → k < m .t
+triangle-in-mesh m plan k e h = rw e h
+
+-- ---- the start pass
+
+module _ (plan : Plan) (words : List ℕ) (f : List Float) (m : Mesh) (em : m ≡ meshAt (plan .n) (plan .t)) where
+  pub gradients-put : (f′ : List Float) (u at : ℕ) → u ≡ atX (plan .n) (plan .t) → at ≡ atGradients (plan .n) (plan .t) → f′ ≡ splice f at (gradientsIn flat f words m u) → f′ ≡ gradientsPut plan words f
+  unfolding verticesOf trianglesOf
+  gradients-put f′ u at eu ea e = rw (em, eu, ea) at e
+
+  pub found-given : (r : Start) (p : Point) → plan .start ≡ Given.At p → r ≡ triangleContaining (verticesOf f m) (trianglesOf words m) (m .t) p → r ≡ foundBy plan words f (plan .start)
+  unfolding verticesOf trianglesOf
+  found-given r p eg e = rw eg (rw em at e)
+
+  pub found-picked : (r : Start) (u : ℕ) → plan .start ≡ Given.Nothing → u ≡ atX (plan .n) (plan .t)
+      → r ≡ pickStart (verticesOf f m) (trianglesOf words m) (neighboursOf words m) (tagsOf words m) (m .t) (fieldOf f m u) → r ≡ foundBy plan words f (plan .start)
+  unfolding verticesOf trianglesOf neighboursOf tagsOf fieldOf
+  found-picked r u eg eu e = rw eg (rw (em, eu) at e)
+
+start-is : (plan : Plan) (words : List ℕ) (f : List Float) (s : Stand) (g : Given) → setOut s (gradientsPut plan words f) (lostBy g) (foundBy plan words f g) ≡ startBy plan words f s g
+start-is plan words f s (Given.At p) = refl
+start-is plan words f s Given.Nothing = refl
+
+module _ (plan : Plan) (words : List ℕ) (f : List Float) (s : Stand) (found : Start) (f′ : List Float) (s′ : Stand) where
+  begin-is : found ≡ foundBy plan words f (plan .start) → f′ ≡ gradientsPut plan words f → setOut s f′ (lostBy (plan .start)) found ≡ beginStep plan words f s
+  unfolding beginStep
+  begin-is e h = ap₂ (λ x y. setOut s x (lostBy (plan .start)) y) h e ∙ start-is plan words f s (plan .start)
+
+  pub begin-lost : (e : ℕ) (w : Walk) → found ≡ foundBy plan words f (plan .start) → f′ ≡ gradientsPut plan words f → found ≡ Start.Nothing → e ≡ lostBy (plan .start) → w ≡ ended nowhere e
+      → s′ ≡ walkedStand s w 0 → Leads (beginStep plan words f s) (record { stand = s′; gives = Gives.Nothing }) f′
+  unfolding setOut
+  begin-lost e w ef eg en ee ew es =
+      let i : setOut s f′ (lostBy (plan .start)) Start.Nothing ≡ beginStep plan words f s = rw en at (begin-is ef eg) in
+      rw (← i) (record { stand = es ∙ ap (λ (x : Walk). walkedStand s x 0) (ew ∙ ap (ended nowhere) ee); gives = refl; front = refl })
+
+  pub begin-found : (p : Point) (t e : ℕ) → found ≡ foundBy plan words f (plan .start) → f′ ≡ gradientsPut plan words f → found ≡ Start.At p t e
+      → s′ ≡ walkedStand s (record { position = p; triangle = t; edge = e; points = 1; end = 0 }) 0 → Leads (beginStep plan words f s) (record { stand = s′; gives = Gives.First p }) f′
+  unfolding setOut
+  begin-found p t e ef eg ea es =
+      let i : setOut s f′ (lostBy (plan .start)) (Start.At p t e) ≡ beginStep plan words f s = rw ea at (begin-is ef eg) in
+      rw (← i) (record { stand = es; gives = refl; front = refl })
+
+-- ---- a crossing
+
+pub crossing-is : (plan : Plan) (words : List ℕ) (f : List Float) (s : Stand) (m : Mesh) (u at : ℕ) (r : Crossing) → m ≡ meshAt (plan .n) (plan .t) → u ≡ atX (plan .n) (plan .t)
+    → at ≡ atGradients (plan .n) (plan .t) → r ≡ crossingIn f words m u at rule (plan .step) (s .walk .position) (s .walk .triangle) (s .walk .edge) → r ≡ crossingOf plan words f s
+unfolding verticesOf trianglesOf neighboursOf fieldOf gradientsOf
+crossing-is plan words f s m u at r em eu ea e = rw (em, eu, ea) at e
+
+pub cross-leads : (plan : Plan) (words : List ℕ) (f : List Float) (s : Stand) (c : Crossing) (last : Bool) (w : Walk) (s′ : Stand) → c ≡ crossingOf plan words f s
+    → last ≡ eqb (s .crossings + 1) (20 * plan .t) → w ≡ walked (rule .spacing) (plan .room) last (s .walk) c → s′ ≡ walkedStand s w (s .crossings + 1)
+    → Leads (crossStep plan words f s) (record { stand = s′; gives = Gives.Crossed c }) f
+unfolding crossStep
+cross-leads plan words f s c last w s′ ec el ew es = record {
+  stand = es ∙ ap (λ (x : Walk). walkedStand s x (s .crossings + 1)) (ew ∙ ap₂ (λ b x. walked (rule .spacing) (plan .room) b (s .walk) x) el ec);
+  gives = ap Gives.Crossed ec;
+  front = refl;
+}
+
+-- ---- any pass
+
+module _ (plan : Plan) (words : List ℕ) (f : List Float) (s : Stand) where
+  pub steps-over : (s .walk .end ≡ 0 → ⊥) → Steps plan words f s (record { stand = s; gives = Gives.Nothing }) f
+  steps-over n =
+      let e = sym (step-over plan words f s n) in
+      record { stand = ap (λ (d : Stepped). d .stand) e; gives = ap (λ (d : Stepped). d .gives) e; front = ap (λ (d : Stepped). d .front) e }
+
+  module _ (r : Step) (f′ : List Float) where
+    leads-steps : (d : Stepped) → d ≡ stepOn plan words f s → Leads d r f′ → Steps plan words f s r f′
+    leads-steps d e l = record {
+      stand = l .stand ∙ ap (λ (x : Stepped). x .stand) e;
+      gives = l .gives ∙ ap (λ (x : Stepped). x .gives) e;
+      front = l .front ∙ ap (λ (x : Stepped). x .front) e;
+    }
+
+    pub steps-solve : s .walk .end ≡ 0 → s .end ≡ 0 → Leads (solveStep plan words f s) r f′ → Steps plan words f s r f′
+    unfolding stepOn nextOf
+    steps-solve e z l = leads-steps (solveStep plan words f s) (rw (eq-eqb (s .walk .end) 0 e, eq-eqb (s .end) 0 z)) l
+
+    pub steps-begin : s .walk .end ≡ 0 → (s .end ≡ 0 → ⊥) → s .walk .points ≡ 0 → Leads (beginStep plan words f s) r f′ → Steps plan words f s r f′
+    unfolding stepOn nextOf
+    steps-begin e z k l = leads-steps (beginStep plan words f s) (rw (eq-eqb (s .walk .end) 0 e, ne-eqb (s .end) 0 z, eq-eqb (s .walk .points) 0 k)) l
+
+    pub steps-cross : s .walk .end ≡ 0 → (s .end ≡ 0 → ⊥) → (s .walk .points ≡ 0 → ⊥) → Leads (crossStep plan words f s) r f′ → Steps plan words f s r f′
+    unfolding stepOn nextOf
+    steps-cross e z k l = leads-steps (crossStep plan words f s) (rw (eq-eqb (s .walk .end) 0 e, ne-eqb (s .end) 0 z, ne-eqb (s .walk .points) 0 k)) l

@@ -1,0 +1,25 @@
+-- `crossing_of` meets its contract: the mesh, the field and the gradients stand in the front where the definition reads them. Assumes nothing.
+use Rattle.work.proofs.LawsKinds.{front-graded, triangle-in-mesh, crossing-is}
+use borrow.Author.Needs.{needs}
+use Rattle.work.proofs.kinds.crossing_of.Statement.{statement}
+use Rattle.work.proofs.kinds.crossing_of.Tie as tie
+
+mesh-at-requires : tie.Need-mesh-at-requires
+mesh-at-requires c κs = search needs
+
+at-x-requires : tie.Need-at-x-requires
+at-x-requires c κs = search needs
+
+at-gradients-requires : tie.Need-at-gradients-requires
+at-gradients-requires c κs = search needs
+
+crossing-requires : tie.Need-crossing-requires
+crossing-requires c κs = (front-graded (c .before .before .before .before .before .before .before .args .plan) _ _ _ (c .before .before .before .before .mesh-at .ensures) (c .before .before .before .before .before .before .before .pre .0) _ _ (c .before .before .before .at-x .ensures) (c .before .before .at-gradients .ensures), triangle-in-mesh _ (c .before .before .before .before .before .before .before .args .plan) _ (c .before .before .before .before .mesh-at .ensures) (c .before .before .before .before .before .before .before .pre .1))
+
+returns : tie.Need-returns
+returns c = crossing-is (c .before .before .before .before .before .before .before .before .args .plan) _ _ (c .before .before .before .before .before .before .before .before .args .stand) _ _ _ _ (c .before .before .before .before .before .mesh-at .ensures) (c .before .before .before .before .at-x .ensures) (c .before .before .before .at-gradients .ensures) (c .crossing .ensures)
+
+pub crossing-of-spec : {M : Type 1} → statement M
+crossing-of-spec =
+    tie.close
+    (tie.spec mesh-at-requires at-x-requires at-gradients-requires crossing-requires returns)

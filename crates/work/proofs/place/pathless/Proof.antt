@@ -1,0 +1,17 @@
+-- `pathless` meets its contract: its walk is that of no path. Assumes nothing.
+use mathlib.Core.Path.{ap}
+use borrow.Author.Needs.{needs}
+use Rattle.pde.specs.declared.Walk.{Walk}
+use Rattle.work.specs.declared.Stand.{Stand}
+use Rattle.work.proofs.LawsSeek.{stood-nowhere}
+use Rattle.work.proofs.place.pathless.Statement.{statement}
+use Rattle.work.proofs.place.pathless.Tie as tie
+
+lost-requires : tie.Need-lost-requires
+lost-requires c κs = search needs
+
+returns : tie.Need-returns
+returns c = stood-nowhere _ _ _ _ _ (c .lost .ensures)
+
+pub pathless-spec : {M : Type 1} → statement M
+pathless-spec = tie.close (tie.spec lost-requires returns)

@@ -1,0 +1,240 @@
+// The kinds of pass on the front of the floats: solving, the start, and a crossing.
+use crate::Given;
+use crate::Gives;
+use crate::Plan;
+use crate::Run;
+use crate::Stand;
+use crate::Step;
+use crate::layout;
+use crate::place;
+use conjugate::Pass;
+use pde::Crossing;
+use pde::Rule;
+use pde::Start;
+use pde::Walk;
+ghost use mathlib.Core.Path.{_≡_};
+ghost use Prim.Native.Nat.{_+_, _*_, _<_};
+ghost use lib.Dec.{leb, eqb};
+ghost use lib.ListN.{length};
+ghost use Rattle.binary64.specs.Number.{pick};
+ghost use Rattle.work.specs.Memory as Memory;
+ghost use Rattle.work.specs.Ready.{Steps};
+ghost use Rattle.work.specs.Kinds.{Steppable, Searchable, Crossable, Leads, foundBy, lostBy, gradientsPut};
+
+// The stand after a pass of solving.
+fn solved_stand(s: Stand, rs: f64, norms: usize, end: u32) -> Stand
+    requires { ⌜ s .place < 1000000 ⌝ }
+    ensures { λ r. ⌜ r ≡ Memory.solvedStand s rs norms end ⌝ }
+{
+    let walk = s.walk;
+    Stand {
+        place: s.place + 1,
+        rs,
+        norms,
+        end,
+        walk,
+        crossings: s.crossings,
+    }
+}
+
+// The end of a pass with no other end: 3 where the limit is used up.
+fn limit_end(limit: usize, norms: usize) -> u32
+    ensures { λ r. ⌜ r ≡ pick (leb limit norms) 3 0 ⌝ }
+{
+    if limit <= norms { 3 } else { 0 }
+}
+
+// A pass of solving.
+fn solve_step(front: &mut [f64], words: &[u32], plan: Plan, stand: Stand) -> Step
+    requires { ⌜ Steppable plan (now words) (now front) stand ⌝ }
+    ensures { λ r. ⌜ Leads (Memory.solveStep plan (now (words .entry)) (now (front .entry)) stand) r (now (front .exit)) ⌝ }
+{
+    let m = layout::matrix_at(plan.n, plan.t);
+    let at = layout::vectors_at(plan.n, plan.t);
+    let turn = conjugate::one_pass(front, words, m, at, Run::TINY, plan.tolerance, stand.rs);
+    match turn {
+        Pass::Halted => {
+            let s = solved_stand(stand, stand.rs, stand.norms, 2);
+            Step {
+                stand: s,
+                gives: Gives::Nothing,
+            }
+        }
+        Pass::Reached(norm) => {
+            let s = solved_stand(stand, stand.rs, stand.norms + 1, 1);
+            Step {
+                stand: s,
+                gives: Gives::Norm(norm),
+            }
+        }
+        Pass::Moved(rs, norm) => {
+            let end = limit_end(plan.limit, stand.norms);
+            let s = solved_stand(stand, rs, stand.norms + 1, end);
+            Step {
+                stand: s,
+                gives: Gives::Norm(norm),
+            }
+        }
+    }
+}
+
+// ---- the start pass
+
+// The gradients on all triangles, in their place.
+fn fill_gradients(front: &mut [f64], words: &[u32], plan: Plan)
+    requires { ⌜ Searchable plan (now words) (now front) ⌝ }
+    ensures { λ _. ⌜ now (front .exit) ≡ gradientsPut plan (now (words .entry)) (now (front .entry)) ⌝ }
+{
+    let m = layout::mesh_at(plan.n, plan.t);
+    let u = layout::at_x(plan.n, plan.t);
+    let at = layout::at_gradients(plan.n, plan.t);
+    gradient::compute_gradient_field(front, words, m, u, at, Run::TINY);
+}
+
+// A given start lies in the first triangle that accepts it; otherwise a start is picked.
+fn find_start(front: &[f64], words: &[u32], plan: Plan) -> Start
+    requires { ⌜ Searchable plan (now words) (now front) ⌝ }
+    ensures { λ r. ⌜ r ≡ foundBy plan (now (words .entry)) (now (front .entry)) (plan .start) ⌝ }
+{
+    let m = layout::mesh_at(plan.n, plan.t);
+    let u = layout::at_x(plan.n, plan.t);
+    let given = plan.start;
+    match given {
+        Given::At(p) => pde::begin::find_triangle_containing(front, words, m, p),
+        Given::Nothing => pde::begin::pick_start(front, words, m, u),
+    }
+}
+
+// The path's end where no start is found.
+fn lost_end(given: Given) -> u32
+    ensures { λ r. ⌜ r ≡ lostBy given ⌝ }
+{
+    match given {
+        Given::At(_) => 8,
+        Given::Nothing => 9,
+    }
+}
+
+// The stand after the start pass or a crossing.
+fn walked_stand(s: Stand, walk: Walk, crossings: usize) -> Stand
+    requires { ⌜ s .place < 1000000 ⌝ }
+    ensures { λ r. ⌜ r ≡ Memory.walkedStand s walk crossings ⌝ }
+{
+    let place = s.place + 1;
+    Stand {
+        place,
+        rs: s.rs,
+        norms: s.norms,
+        end: s.end,
+        walk,
+        crossings,
+    }
+}
+
+// The pass after solving: the gradients, and the first point or an end.
+fn begin_step(front: &mut [f64], words: &[u32], plan: Plan, stand: Stand) -> Step
+    requires { ⌜ Steppable plan (now words) (now front) stand ⌝ }
+    ensures { λ r. ⌜ Leads (Memory.beginStep plan (now (words .entry)) (now (front .entry)) stand) r (now (front .exit)) ⌝ }
+{
+    let found = find_start(front, words, plan);
+    fill_gradients(front, words, plan);
+    let Start::At(p, t, e) = found else {
+        let given = plan.start;
+        let s = walked_stand(stand, place::lost(lost_end(given)), 0);
+        return Step {
+            stand: s,
+            gives: Gives::Nothing,
+        };
+    };
+    let walk = Walk {
+        position: p,
+        triangle: t,
+        edge: e,
+        points: 1,
+        end: 0,
+    };
+    let s = walked_stand(stand, walk, 0);
+    Step {
+        stand: s,
+        gives: Gives::First(p),
+    }
+}
+
+// ---- a crossing
+
+// What crossing the path's triangle comes to.
+fn crossing_of(front: &[f64], words: &[u32], plan: Plan, stand: Stand) -> Crossing
+    requires { ⌜ Searchable plan (now words) (now front) × (stand .walk .triangle < plan .t) ⌝ }
+    ensures { λ r. ⌜ r ≡ Memory.crossingOf plan (now (words .entry)) (now (front .entry)) stand ⌝ }
+{
+    let m = layout::mesh_at(plan.n, plan.t);
+    let u = layout::at_x(plan.n, plan.t);
+    let at = layout::at_gradients(plan.n, plan.t);
+    let rule = Rule {
+        dull: Run::DULL,
+        above: Run::ABOVE,
+        spacing: Run::SPACING,
+    };
+    let walk = stand.walk;
+    let from = walk.position;
+    pde::cross::crossing(
+        front,
+        words,
+        m,
+        u,
+        at,
+        rule,
+        plan.step,
+        from,
+        walk.triangle,
+        walk.edge,
+    )
+}
+
+// Which crossing is the last of all.
+fn is_last(made: usize, t: usize) -> bool
+    requires { ⌜ t < 8193 ⌝ }
+    ensures { λ r. ⌜ r ≡ eqb made (20 * t) ⌝ }
+{
+    made == Run::FACTOR * t
+}
+
+// A crossing of the path's triangle.
+fn cross_step(front: &[f64], words: &[u32], plan: Plan, stand: Stand) -> Step
+    requires { ⌜ Crossable plan (now words) (now front) stand ⌝ }
+    ensures { λ r. ⌜ Leads (Memory.crossStep plan (now (words .entry)) (now (front .entry)) stand) r (now (front .entry)) ⌝ }
+{
+    let c = crossing_of(front, words, plan, stand);
+    let made = stand.crossings + 1;
+    let last = is_last(made, plan.t);
+    let walk = stand.walk;
+    let next = pde::path::after(Run::SPACING, plan.room, last, walk, c);
+    let s = walked_stand(stand, next, made);
+    Step {
+        stand: s,
+        gives: Gives::Crossed(c),
+    }
+}
+
+// ---- any pass
+
+// The pass that is next, from the ends alone, on the front of the floats; what it gives is not written yet.
+pub fn step(front: &mut [f64], words: &[u32], plan: Plan, stand: Stand) -> Step
+    requires { ⌜ Steppable plan (now words) (now front) stand ⌝ }
+    ensures { λ r. ⌜ Steps plan (now (words .entry)) (now (front .entry)) stand r (now (front .exit)) ⌝ }
+{
+    let walk = stand.walk;
+    if walk.end != 0 {
+        return Step {
+            stand,
+            gives: Gives::Nothing,
+        };
+    }
+    if stand.end == 0 {
+        return solve_step(front, words, plan, stand);
+    }
+    if walk.points == 0 {
+        return begin_step(front, words, plan, stand);
+    }
+    cross_step(front, words, plan, stand)
+}
