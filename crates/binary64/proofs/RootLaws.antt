@@ -97,8 +97,11 @@ root-of-lt (suc f) t h = pattern-lt (1024 + f) (2 ^ 52 + t) (omega arith)
 no-nan : (b : ℕ) → b < 2047 * 2 ^ 52 → nanBits binary64 b ≡ false
 no-nan b h = nanBits-above binary64 b ∙ le-ltb (2047 * 2 ^ 52) (b % 2 ^ 63) (omega arith)
 
+pub number : (b : ℕ) → b < 2047 * 2 ^ 52 → T (not (nanBits binary64 b))
+number b h = subst (λ (t : Bool). T (not t)) (sym (no-nan b h)) tt
+
 pub root-no-nan : (f t r : ℕ) → f < 2047 → r ≡ rootOf f t → T (not (nanBits binary64 r))
-root-no-nan f t r h e = subst (λ (n : ℕ). T (not (nanBits binary64 n))) (sym e) (subst (λ (t : Bool). T (not t)) (sym (no-nan (rootOf f t) (root-of-lt f t h))) tt)
+root-no-nan f t r h e = subst (λ (n : ℕ). T (not (nanBits binary64 n))) (sym e) (number (rootOf f t) (root-of-lt f t h))
 
 not-nan : (b : ℕ) → b < 2047 * 2 ^ 52 → isNan (ofBits binary64 b) ≡ false
 not-nan b h = sym (nanBits-is binary64 b) ∙ no-nan b h

@@ -1,81 +1,93 @@
--- `binary64::root::whole_root` meets its contract. The invariant is `Partial`: the root so far is that of the digits brought down, and the remainder what its square leaves of them.
--- A turn is `partial-one` or `partial-zero`, by the test, and after 54 turns no digit is left. Assumes nothing.
-use mathlib.Core.Logic.{⊎-elim}
-use Prim.Native.Nat.{_≤_, _<_, _-_, _^_}
-use mathlib.Core.Path.{_≡_, refl}
+-- `binary64::root::whole_root` meets its contract: the guess with its remainder tells the root (`root-more`, `root-less`), and where it does not the digits do. Assumes nothing.
 use native.Mathlib.Omega.{arith}
-use Rattle.binary64.proofs.WholeRoot.{Partial, partial-none, partial-small, partial-zero, partial-one, partial-done}
+use Rattle.binary64.proofs.RootGuess.{product-fits, sum-fits, root-more, root-less}
+use borrow.Author.Needs.{needs}
 use Rattle.binary64.proofs.root.whole_root.Statement.{statement}
 use Rattle.binary64.proofs.root.whole_root.Tie as tie
 
-abbrev Inv-loop : tie.InvT-loop
-Inv-loop operand rest₀ remainder₀ root₀ i₀ rest remainder root i = (i ≤ 54) × Partial operand i rest remainder root
+guess-requires : tie.Need-guess-requires
+guess-requires c κs = search needs
 
-abbrev μ-loop : tie.MeasureT-loop
-μ-loop operand rest₀ remainder₀ root₀ i₀ rest remainder root i = 54 - i
+remainder-requires : tie.Need-remainder-requires
+remainder-requires c κs = search needs
 
-loop-holds : tie.Need-loop-holds Inv-loop μ-loop
-loop-holds c = (omega arith, partial-none _ (c .pre))
+digit-root-requires : tie.Need-digit-root-requires
+digit-root-requires c κs = search needs
 
--- the root before a turn has at most 53 digits
-small : (c : tie.In-loop Inv-loop μ-loop) → c .before .loop .root < 2 ^ 53
-small c = let l = c .before .loop .inv in partial-small (l .1) (c .loop-test .taken)
+returns : tie.Need-returns
+returns c = search needs
 
-mul-remainder : tie.Need-mul-remainder Inv-loop μ-loop
-mul-remainder c = let s = small c in omega arith
+mul-step : tie.Need-mul-step
+mul-step c = search needs
 
-add-remainder : tie.Need-add-remainder Inv-loop μ-loop
-add-remainder c = let s = small c in omega arith
+add-step : tie.Need-add-step
+add-step c = search needs
 
-mul-rest : tie.Need-mul-rest Inv-loop μ-loop
-mul-rest c = omega arith
+div-more : tie.Need-div-more
+div-more c = search needs
 
-mul-trial : tie.Need-mul-trial Inv-loop μ-loop
-mul-trial c = let s = small c in omega arith
+rem-left : tie.Need-rem-left
+rem-left c = search needs
 
-add-trial : tie.Need-add-trial Inv-loop μ-loop
-add-trial c = let s = small c in omega arith
+digit-root-requires-2 : tie.Need-digit-root-requires-2
+digit-root-requires-2 c κs = search needs
 
-mul-root : tie.Need-mul-root Inv-loop μ-loop
-mul-root c = let s = small c in omega arith
+returns-2 : tie.Need-returns-2
+returns-2 c = search needs
 
-add-root : tie.Need-add-root Inv-loop μ-loop
-add-root c = let s = small (c .before) in omega arith
+mul-square : tie.Need-mul-square
+mul-square c = record { fits = product-fits _ _ (omega arith) (omega arith) }
 
-add-i : tie.Need-add-i Inv-loop μ-loop
-add-i c = omega arith
+digit-root-requires-3 : tie.Need-digit-root-requires-3
+digit-root-requires-3 c κs = search needs
 
-loop-less : tie.Need-loop-less Inv-loop μ-loop
-loop-less c = omega arith
+returns-3 : tie.Need-returns-3
+returns-3 c = search needs
 
-loop-again : tie.Need-loop-again Inv-loop μ-loop
-loop-again c =
-    let l = c .before .before .loop in (
-      omega arith,
-      ⊎-elim
-          (λ w. partial-one _ _ _ _ _ (l .inv .1) _ _ _ refl (omega arith) (omega arith))
-          (λ w. partial-zero _ _ _ _ _ (l .inv .1) _ _ _ refl (omega arith) (omega arith) (omega arith))
-          (c .if1 .came),
-    )
+add-if4 : tie.Need-add-if4
+add-if4 c = record { fits = sum-fits _ _ (omega arith) (omega arith) }
 
-returns : tie.Need-returns Inv-loop μ-loop
-returns c = let e : c .before .loop .i ≡ 54 = omega arith in partial-done (c .before .before .pre) (rw e at (c .before .loop .inv .1))
+add-result : tie.Need-add-result
+add-result c = search needs
+
+sub-result : tie.Need-sub-result
+sub-result c = search needs
+
+returns-4 : tie.Need-returns-4
+returns-4 c =
+    let s = c .before .before .before .before in
+    let q = s .before .guess .result in
+    root-less (s .before .before .args .operand) q (s .remainder .result) _ (s .before .before .pre) (s .remainder .ensures (omega arith)) (omega arith) (omega arith) (omega arith)
+
+add-result-2 : tie.Need-add-result-2
+add-result-2 c = search needs
+
+returns-5 : tie.Need-returns-5
+returns-5 c =
+    let s = c .before .before .before .before in
+    let q = s .before .guess .result in
+    root-more (s .before .before .args .operand) q (s .remainder .result) _ (s .before .before .pre) (s .remainder .ensures (omega arith)) (omega arith) (omega arith)
 
 pub whole-root-spec : {M : Type 1} → statement M
 whole-root-spec =
     tie.close
     (tie.spec
-    Inv-loop
-    μ-loop
-    loop-holds
-    mul-remainder
-    add-remainder
-    mul-rest
-    mul-trial
-    add-trial
-    mul-root
-    add-root
-    add-i
-    loop-less
-    loop-again
-    returns)
+    guess-requires
+    remainder-requires
+    digit-root-requires
+    returns
+    mul-step
+    add-step
+    div-more
+    rem-left
+    digit-root-requires-2
+    returns-2
+    mul-square
+    digit-root-requires-3
+    returns-3
+    add-if4
+    add-result
+    sub-result
+    returns-4
+    add-result-2
+    returns-5)
