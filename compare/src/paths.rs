@@ -18,7 +18,7 @@ use crate::trial::Sort;
 use crate::uninterrupted::{Run, State};
 
 /// The original has no room and may put down millions of points in one crossing. It is asked only where the path has no more than these.
-pub const MOST_POINTS: usize = 100_000;
+const MOST_POINTS: usize = 100_000;
 
 pub fn paths() -> Cases {
     Cases {
@@ -198,14 +198,19 @@ fn judge_with(rng: &mut Rng, content: &Content, field: Vec<f64>, tally: &mut Tal
     judge(rng, &run, solved, Some(&field), tally);
 }
 
+/// The last place of a run that has the same field, and room for every point.
+pub fn with_room_enough(content: &Content, solved: State) -> State {
+    let mut run = Run::new(content);
+    run.room = MOST_POINTS;
+    run.from(solved)
+}
+
 fn judge(rng: &mut Rng, run: &Run, solved: State, field: Option<&[f64]>, tally: &mut Tally) {
     tally.counts.note(3, finite(&solved.x));
     let last = run.from(solved.clone());
     tally.counts.note(0, last.path_end as usize);
     tally.counts.note(2, [1, 2, 10, 100].iter().filter(|k| last.crossings >= **k).count());
-    let mut with_room = Run::new(run.content);
-    with_room.room = MOST_POINTS;
-    let free = with_room.from(solved);
+    let free = with_room_enough(run.content, solved);
     tally.counts.note(4, (free.path_end == 7) as usize);
     tally.note(as_original(run, &last, &free).and_then(|()| as_library(rng, run, field, &last)));
 }

@@ -7,7 +7,7 @@ use crate::floats::canon;
 use crate::machine::{any_call, any_lent, needs, Call, Machine};
 use crate::meshes::{changed, cut_ring, fan, few, grid, heap, near_tiny, needles, ring, strip, Make};
 use crate::near_misses;
-use crate::paths::{self, tracing, MOST_POINTS};
+use crate::paths::{self, tracing};
 use crate::reader::read;
 use crate::rng::Rng;
 use crate::samples::s1_content;
@@ -50,9 +50,7 @@ fn held_to_the_original(content: &Content) {
     let run = Run::new(content);
     let solved = run.solved();
     let last = run.from(solved.clone());
-    let mut with_room = Run::new(content);
-    with_room.room = MOST_POINTS;
-    let free = with_room.from(solved.clone());
+    let free = paths::with_room_enough(content, solved.clone());
     let verdict = fields::as_original(content, &run, &solved).and_then(|()| paths::as_original(&run, &last, &free));
     verdict.expect("the uninterrupted run and the original agree");
 }
@@ -187,9 +185,7 @@ fn small_content(rng: &mut Rng, make: Make) -> Content {
 
 /// Whether the original would put down too many points.
 fn too_long(content: &Content) -> bool {
-    let mut run = Run::new(content);
-    run.room = MOST_POINTS;
-    run.from(run.start()).path_end == 7
+    paths::with_room_enough(content, Run::new(content).start()).path_end == 7
 }
 
 fn any_calls(rng: &mut Rng, content: &Content, last: usize) -> Vec<Lent> {

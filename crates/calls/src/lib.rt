@@ -5,7 +5,7 @@ use work::Mark;
 use work::Run;
 use work::Stand;
 ghost use mathlib.Core.Path.{_≡_};
-ghost use Prim.Native.Nat.{_+_, _-_, _≤_, min};
+ghost use Prim.Native.Nat.{_+_, _-_, _≤_};
 ghost use lib.Dec.{ltb};
 ghost use Rattle.model.specs.Space as Space;
 ghost use Rattle.model.specs.Machine as Machine;
@@ -17,12 +17,6 @@ ghost use Rattle.image.specs.Exits.{answered, movedRun, overFault};
 
 // 2^64 − 1, the most passes that are counted.
 const MOST: u64 = 18446744073709551615;
-
-fn least(a: usize, b: usize) -> usize
-    ensures { λ r. ⌜ r ≡ min a b ⌝ }
-{
-    if a <= b { a } else { b }
-}
 
 fn say(refused: u32, run: Run) -> Answer
     ensures { λ r. ⌜ r ≡ answered refused run ⌝ }
@@ -86,7 +80,7 @@ pub fn advance(run: Run, k: u32, floats: &mut [f64], words: &[u32], path: &mut [
     }
     let plan = run.plan;
     let place = run.stand.place;
-    let target = least(place + k as usize, gate::farthest(plan.t, plan.limit));
+    let target = gate::least(place + k as usize, gate::farthest(plan.t, plan.limit));
     let late = passes_fault(run, target, floats, words);
     if late != 0 {
         return say(late, run);
@@ -105,7 +99,7 @@ pub fn back(run: Run, k: u32, floats: &mut [f64], words: &[u32], path: &mut [f64
         return say(early, run);
     }
     let place = run.stand.place;
-    let before = place - least(place, k as usize);
+    let before = place - gate::least(place, k as usize);
     let stand = seek(run, before, floats, words, path);
     let earlier = moved(run, stand, run.passes);
     say(0, earlier)

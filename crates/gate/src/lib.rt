@@ -4,7 +4,7 @@ use work::Plan;
 use work::Run;
 use work::Stand;
 ghost use mathlib.Core.Path.{_≡_};
-ghost use Prim.Native.Nat.{_+_, _*_, _≤_};
+ghost use Prim.Native.Nat.{_+_, _*_, _≤_, min};
 ghost use lib.Dec.{eqb};
 ghost use lib.ListN.{length};
 ghost use Rattle.binary64.specs.Number.{pick};
@@ -12,6 +12,12 @@ ghost use Rattle.stretch.specs.Stretch.{part};
 ghost use Rattle.model.specs.Space as Space;
 ghost use Rattle.image.specs.Calls as Calls;
 ghost use Rattle.image.specs.Calls.{buffers};
+
+pub fn least(a: usize, b: usize) -> usize
+    ensures { λ r. ⌜ r ≡ min a b ⌝ }
+{
+    if a <= b { a } else { b }
+}
 
 // The greatest place that a run of t triangles can reach.
 pub fn farthest(t: usize, limit: usize) -> usize

@@ -1,15 +1,7 @@
 // Digests of lists: each number's pattern is put in by an exclusive or, after a rotation of what is there by five places.
 
-// The pattern of a number, with one for every NaN.
-fn pattern(x: f64) -> u64 {
-    if x != x {
-        return 0x7ff8_0000_0000_0000;
-    }
-    f64::to_bits(x)
-}
-
 fn with(digest: u64, x: f64) -> u64 {
-    ((digest << 5) | (digest >> 59)) ^ pattern(x)
+    ((digest << 5) | (digest >> 59)) ^ text::pattern(x)
 }
 
 pub fn all(list: &[f64]) -> u64 {

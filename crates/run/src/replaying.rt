@@ -3,16 +3,10 @@ use image::Answer;
 use image::Opened;
 use work::Run;
 ghost use mathlib.Core.Path.{_≡_};
-ghost use Prim.Native.Nat.{_+_, _*_, _≤_, min};
+ghost use Prim.Native.Nat.{_+_, _*_, _≤_};
 ghost use lib.ListN.{length};
 ghost use Rattle.image.specs.Calls.{buffers, Does};
 ghost use Rattle.image.specs.Replay.{callOf, lentAt, Turned, Performs, Replayed};
-
-fn least(a: usize, b: usize) -> usize
-    ensures { λ r. ⌜ r ≡ min a b ⌝ }
-{
-    if a <= b { a } else { b }
-}
 
 // The call that two numbers name.
 fn perform(
@@ -48,9 +42,9 @@ fn turn(
     let at = 5 * i;
     let kind = calls[at];
     let k = calls[at + 1];
-    let f = least(calls[at + 2] as usize, floats.len());
-    let w = least(calls[at + 3] as usize, words.len());
-    let p = least(calls[at + 4] as usize, path.len());
+    let f = gate::least(calls[at + 2] as usize, floats.len());
+    let w = gate::least(calls[at + 3] as usize, words.len());
+    let p = gate::least(calls[at + 4] as usize, path.len());
     perform(run, kind, k, &mut floats[..f], &words[..w], &mut path[..p])
 }
 
@@ -66,7 +60,7 @@ pub fn make(
     ensures { λ r. ⌜ Performs (now (calls .entry)) run (now (said .entry)) (buffers (now (floats .entry)) (now (words .entry)) (now (path .entry))) r (now (said .exit)) (buffers (now (floats .exit)) (now (words .entry)) (now (path .exit))) ⌝ }
 {
     let mut held = run;
-    let count = least(said.len(), calls.len() / 5);
+    let count = gate::least(said.len(), calls.len() / 5);
     for i in 0..count {
         let a = turn(held, calls, i, floats, words, path);
         said[i] = a.refused;

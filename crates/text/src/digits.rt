@@ -8,7 +8,7 @@ ghost use Rattle.text.specs.Put.{Puts};
 ghost use Rattle.text.specs.Text as Text;
 
 // The pattern of a number, with one for every NaN.
-fn pattern(x: f64) -> u64
+pub fn pattern(x: f64) -> u64
     ensures { λ r. ⌜ r ≡ toBits binary64 x ⌝ }
 {
     if x != x {

@@ -4,6 +4,7 @@ mod digits;
 mod lines;
 mod raw;
 
+pub use digits::pattern;
 pub use lines::put_pairs;
 pub use lines::put_singles;
 ghost use Prim.Native.Nat.{_+_, _*_, _≤_};

@@ -4,7 +4,7 @@ use Prim.Native.Nat.{ℕ, _≤_, _<_}
 use borrow.Author.Tests.{lt-ltb, le-ltb}
 use lib.ListN.{length}
 use lib.Ieee.{Float}
-use Rattle.exports.specs.Answers.{Answers}
+use Rattle.exports_numbers.specs.Answers.{Answers}
 
 module _ {n said : ℕ} {put out : List Float} where
   pub too-short : length out < n → Answers n said put out out 2

@@ -1,9 +1,9 @@
--- `exports::cintrok_ray` meets its contract: the point is what `get_ray_line_intersection` ensures, and the stores are inside `out`, whose length the first test gives. Assumes nothing.
+-- `exports_numbers::cintrok_ray` meets its contract: the point is what `get_ray_line_intersection` ensures, and the stores are inside `out`, whose length the first test gives. Assumes nothing.
 use mathlib.Core.Path.{sym, _∙_}
-use Rattle.exports.proofs.Laws.{too-short, put-there}
+use Rattle.exports_numbers.proofs.Laws.{too-short, put-there}
 use borrow.Author.Needs.{needs}
-use Rattle.exports.proofs.cintrok_ray.Statement.{statement}
-use Rattle.exports.proofs.cintrok_ray.Tie as tie
+use Rattle.exports_numbers.proofs.cintrok_ray.Statement.{statement}
+use Rattle.exports_numbers.proofs.cintrok_ray.Tie as tie
 
 returns : tie.Need-returns
 returns c = too-short (c .if1 .taken)

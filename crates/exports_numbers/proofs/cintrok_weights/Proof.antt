@@ -1,10 +1,10 @@
--- `exports::cintrok_weights` meets its contract: the weights are what `get_barycentric_weights` ensures, and the stores are inside `out`, whose length the first test gives. Assumes nothing.
-use Rattle.exports.proofs.Laws.{too-short, put-there}
+-- `exports_numbers::cintrok_weights` meets its contract: the weights are what `get_barycentric_weights` ensures, and the stores are inside `out`, whose length the first test gives. Assumes nothing.
+use Rattle.exports_numbers.proofs.Laws.{too-short, put-there}
 use native.Mathlib.Omega.{arith}
 use borrow.Author.Needs.{needs}
 use lib.ListN.{length-set}
-use Rattle.exports.proofs.cintrok_weights.Statement.{statement}
-use Rattle.exports.proofs.cintrok_weights.Tie as tie
+use Rattle.exports_numbers.proofs.cintrok_weights.Statement.{statement}
+use Rattle.exports_numbers.proofs.cintrok_weights.Tie as tie
 
 returns : tie.Need-returns
 returns c = too-short (c .if1 .taken)

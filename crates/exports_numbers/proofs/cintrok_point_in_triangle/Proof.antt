@@ -1,7 +1,7 @@
--- `exports::cintrok_point_in_triangle` meets its contract: the number is the flag of what `point_in_triangle` ensures. Assumes nothing.
+-- `exports_numbers::cintrok_point_in_triangle` meets its contract: the number is the flag of what `point_in_triangle` ensures. Assumes nothing.
 use borrow.Author.Needs.{needs}
-use Rattle.exports.proofs.cintrok_point_in_triangle.Statement.{statement}
-use Rattle.exports.proofs.cintrok_point_in_triangle.Tie as tie
+use Rattle.exports_numbers.proofs.cintrok_point_in_triangle.Statement.{statement}
+use Rattle.exports_numbers.proofs.cintrok_point_in_triangle.Tie as tie
 
 point-in-triangle-requires : tie.Need-point-in-triangle-requires
 point-in-triangle-requires c κs = search needs
