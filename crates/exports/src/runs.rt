@@ -12,6 +12,8 @@ use work::Mark;
 use work::Plan;
 use work::Run;
 use work::Stand;
+ghost use mathlib.Core.Path.{_≡_};
+ghost use Rattle.pde.specs.Path.{lengthOf};
 
 // What has no place reads as 0.
 
@@ -241,7 +243,9 @@ pub extern "C" fn cintrok_points(path: &[f64], wholes: &[u64], reals: &[f64]) ->
 }
 
 #[no_mangle]
-pub extern "C" fn cintrok_length(path: &[f64]) -> f64 {
+pub extern "C" fn cintrok_length(path: &[f64]) -> f64
+    ensures { λ r. ⌜ r ≡ lengthOf (now (path .entry)) ⌝ }
+{
     run::length(path)
 }
 

@@ -6,6 +6,9 @@ use format::Whole;
 use sheet::Checked;
 use sheet::Header;
 use sheet::Written;
+ghost use mathlib.Core.Path.{_≡_};
+ghost use lib.ListN.{getD};
+ghost use Rattle.sheet.specs.Items.{wholeIn};
 
 // Stores that leave out what has no place.
 pub fn put(out: &mut [u64], at: usize, v: u64) {
@@ -114,12 +117,16 @@ pub extern "C" fn cintrok_corners(part: &[u8], t: usize, out: &mut [u32]) {
 }
 
 #[no_mangle]
-pub extern "C" fn cintrok_neighbour(part: &[u8], i: usize) -> u32 {
+pub extern "C" fn cintrok_neighbour(part: &[u8], i: usize) -> u32
+    ensures { λ r. ⌜ r ≡ wholeIn (now (part .entry)) i ⌝ }
+{
     sheet::items::neighbour(part, i)
 }
 
 #[no_mangle]
-pub extern "C" fn cintrok_tag(part: &[u8], i: usize) -> u32 {
+pub extern "C" fn cintrok_tag(part: &[u8], i: usize) -> u32
+    ensures { λ r. ⌜ r ≡ getD (now (part .entry)) i 0 ⌝ }
+{
     sheet::items::tag(part, i) as u32
 }
 
