@@ -69,7 +69,7 @@ counted p h =
 
 -- ---- the space
 
-pick-eight : (b : Bool) → pick {A = ℕ} b 8 0 ≡ 0 → b ≡ false
+pub pick-eight : (b : Bool) → pick {A = ℕ} b 8 0 ≡ 0 → b ≡ false
 pick-eight true h = absurd (omega arith)
 pick-eight false h = refl
 

@@ -1,6 +1,6 @@
 -- Whatever the record's scalars and the buffers hold within the ranges that the calls check: passes, the way to another place and a mark keep the lengths of floats and path, and all that lies past the places used.
 -- Assumes nothing.
-use Prim.Native.Nat.{ℕ, zero, suc, _+_, _-_, _*_, _≤_}
+use Prim.Native.Nat.{ℕ, _+_, _-_, _*_, _≤_}
 use mathlib.Core.Path.{_≡_, refl, sym, ap, _∙_}
 use mathlib.Core.Bool.{Bool, true, false}
 use mathlib.Core.List.{List, [], _∷_, _++_}
@@ -19,10 +19,8 @@ use Rattle.conjugate.specs.Solver as Solver
 use Rattle.conjugate.specs.Solver.{Turn, halted, reached, moved}
 use Rattle.pde.specs.declared.Start.{Start}
 use Rattle.pde.specs.declared.Walk.{Walk}
-use Rattle.pde.specs.declared.Beyond.{Beyond}
 use Rattle.pde.specs.declared.Crossing.{Crossing}
-use Rattle.plane.specs.declared.Point.{Point}
-use Rattle.pde.specs.PathLaws.{length-between}
+use Rattle.pde.specs.PathLaws.{length-between, length-closing}
 use Rattle.pde.specs.Path.{pieces, closes, between, closing, ended, gone, added, walked}
 use Rattle.model.specs.Space.{factor}
 use Rattle.model.specs.Run.{rule, nextBy}
@@ -88,13 +86,6 @@ norms-most plan s h = go (eqb (s .end) 0) (h .norms)
 
 -- ---- what a crossing adds fits
 
-closing-length : (q : Point) (b : Beyond) → length (closing q b) ≡ 2 * closes b
-unfolding closing
-closing-length q Beyond.Border = refl
-closing-length q Beyond.Unnamed = refl
-closing-length q Beyond.Above = refl
-closing-length q (Beyond.Into t e) = refl
-
 crossing-fits : (spacing : Float) (room : ℕ) (last : Bool) (w : Walk) (x : Crossing) → w .points ≤ room
     → (2 * w .points + length (added spacing room w x) ≤ 2 * room) × (walked spacing room last w x .points ≤ room)
 unfolding walked
@@ -110,7 +101,7 @@ crossing-fits spacing room last w (Crossing.Leaves q b) h = go (ltb room (w .poi
     go true e = (omega arith, h)
     go false e =
         let k : w .points + (n - 1 + closes b) ≤ room = ltb-false room (w .points + (n - 1 + closes b)) e in (
-          omega (arith, length-append (between (w .position) q n (n - 1)) (closing q b), length-between (w .position) q n (n - 1), closing-length q b),
+          omega (arith, length-append (between (w .position) q n (n - 1)) (closing q b), length-between (w .position) q n (n - 1), length-closing q b),
           omega (arith, gone-points last w q b (n - 1 + closes b)),
         )
 

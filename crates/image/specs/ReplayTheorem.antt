@@ -15,6 +15,7 @@ use Rattle.model.specs.Space.{roomOf}
 use Rattle.model.specs.Run.{lastPlace}
 use Rattle.model.specs.Machine.{Space, fresh, needs, short}
 use Rattle.work.specs.declared.Run.{Run}
+use Rattle.image.specs.Accepted.{pick-eight}
 use Rattle.image.specs.declared.Opened.{Opened}
 use Rattle.image.specs.Calls.{Buffers}
 use Rattle.image.specs.CallLaws.{Enough, lacking, lacking-none}
@@ -28,12 +29,8 @@ use Rattle.image.specs.ShownTheorem.{image-shown}
 
 -- ---- the buffers as opening leaves them are as long as they were
 
-enough-space : (t : Bool) → pick {A = ℕ} t 8 0 ≡ 0 → t ≡ false
-enough-space true e = absurd (omega arith)
-enough-space false e = refl
-
 pub not-short : (need lent : Space) → short need lent ≡ 0 → Enough need lent
-not-short need lent e = lacking-none need lent (enough-space (lacking need lent) e)
+not-short need lent e = lacking-none need lent (pick-eight (lacking need lent) e)
 
 sizes-rest : (c : Content) (b : Buffers) → Enough (needs c) (lengthsOf b) → sizes c (restOf c b) ≡ lengthsOf b
 unfolding needs

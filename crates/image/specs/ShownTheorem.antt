@@ -19,6 +19,7 @@ use Rattle.laplace.specs.Matrix.{AllBelow, row-rising, row-below, pushes-below,
 use Rattle.laplace.specs.Placed.{valuesOf, padded}
 use Rattle.format.specs.Content.{Content, vertexCount, triangleCount, limitOf}
 use Rattle.format.specs.Range.{InRange}
+use Rattle.model.specs.SizeLaws.{length-rows}
 use Rattle.model.specs.Space.{roomOf}
 use Rattle.model.specs.Run.{at, matrixOf, lastPlace}
 use Rattle.model.specs.Machine.{Counter, fresh, Lent}
@@ -147,11 +148,6 @@ module _ (c : Content) (good : InRange c) (parts : Parts c) where
         (part-front (padded (2 * roomOf c) plusZero path) rest (length path) (2 * roomOf c - length path) (omega arith) ∙ padded-beyond (2 * roomOf c) plusZero path)
 
 -- ---- the matrix
-
-length-rows : (tags : List ℕ) (ps : List Push) (n : ℕ) → length (rows tags ps n) ≡ n
-unfolding rows
-length-rows tags ps zero = refl
-length-rows tags ps (suc n) = let h : length (rows tags ps n) ≡ n = length-rows tags ps n in rw length-append (omega arith)
 
 -- row i is the vertex's
 row-of : (tags : List ℕ) (ps : List Push) (n i : ℕ) → i < n → getD (rows tags ps n) i [] ≡ row tags ps i

@@ -1,10 +1,10 @@
 -- Laws of one pass: which one it is, and what each kind does to the counts, the ends and the triangle walked in. Assumes nothing.
-use Prim.Native.Nat.{ℕ, zero, suc, _+_, _-_, _*_, _≤_, _<_}
+use Prim.Native.Nat.{ℕ, _+_, _-_, _*_, _≤_, _<_}
 use native.Mathlib.Omega.{arith}
 use native.Mathlib.Nat.{le-refl}
 use mathlib.Core.Path.{_≡_, refl, sym, ap}
 use mathlib.Core.Logic.{_≢_}
-use mathlib.Core.Bool.{Bool, true, false, not, _&&_, _||_}
+use mathlib.Core.Bool.{Bool, true, false, not}
 use mathlib.Core.List.{List, [], _∷_, _++_, append-nil}
 use mathlib.Core.Option.{Option, none, some}
 use lib.Dec.{eqb, leb, ltb}
@@ -13,18 +13,16 @@ use lib.Ieee.{Float}
 use borrow.Author.Tests.{eqb-true, eqb-false, leb-false, ltb-false, not-true, not-false}
 use Rattle.binary64.specs.Number.{pick}
 use Rattle.plane.specs.declared.Point.{Point}
-use Rattle.plane.specs.Plane.{pointInTriangle}
-use Rattle.mesh.specs.Mesh.{vertex, corner, neighbour, noNeighbour, onward, tagOf}
 use Rattle.mesh.specs.Element.{flat}
 use Rattle.conjugate.specs.Solver as Solver
 use Rattle.conjugate.specs.Solver.{Turn, halted, reached, moved}
 use Rattle.gradient.specs.Gradient.{gradients}
+use Rattle.pde.specs.Bounds.{StartIn, containing-in, pick-start-in}
 use Rattle.pde.specs.declared.Start.{Start}
 use Rattle.pde.specs.declared.Walk.{Walk}
 use Rattle.pde.specs.declared.Beyond.{Beyond}
 use Rattle.pde.specs.declared.Crossing.{Crossing}
-use Rattle.pde.specs.Search.{firstOf}
-use Rattle.pde.specs.Start.{noEdge, inner, firstStart, orElse, containedIn, triangleContaining, innerEdge, innerEdgeOf, leastVertex, centroidWith, pickStart, firstInner, firstWith}
+use Rattle.pde.specs.Start.{triangleContaining, pickStart}
 use Rattle.pde.specs.Crossing.{crossing}
 use Rattle.pde.specs.Path.{pieces, closes, ended, gone, adds, walked}
 use Rattle.format.specs.Content.{Content, triangleCount, limitOf, toleranceOf}
@@ -130,66 +128,14 @@ pub solving-norms : (c : Content) (f : Field) → (more : List Float) × (solvin
 unfolding solving
 solving-norms c f = solved-norms (limitOf c) f (Solver.pass flat (matrixOf c) (toleranceOf c) (f .solve))
 
--- ---- the first of several answers
-
--- what holds of no answer and of each is kept by the first
-pub first-of : {A : Type 0} (P : A → Type 0) (or : A → A → A) (nothing : A) (f : ℕ → A) → P nothing → ((a b : A) → P a → P b → P (or a b))
-    → (i k : ℕ) → ((j : ℕ) → i ≤ j → j < i + k → P (f j)) → P (firstOf or nothing f i k)
-unfolding firstOf
-first-of P or nothing f n o i zero h = n
-first-of P or nothing f n o i (suc k) h =
-    o (f i) (firstOf or nothing f (suc i) k) (h i (le-refl i) (omega arith)) (first-of P or nothing f n o (suc i) k (λ (j : ℕ) (a : suc i ≤ j) (b : j < suc i + k). h j (omega arith) (omega arith)))
-
 -- ---- the start
-
--- a start is in one of the triangles, and came in by an edge or none
-unfoldable pub StartIn : ℕ → Start → Type 0
-StartIn T (Start.At p t e) = (t < T) × (e ≤ 3)
-StartIn T Start.Nothing = Unit {0}
-
-start-or : (T : ℕ) (a b : Start) → StartIn T a → StartIn T b → StartIn T (orElse a b)
-unfolding StartIn
-start-or T (Start.At p t e) b h k = h
-start-or T Start.Nothing b h k = k
-
-start-if : (T : ℕ) (b : Bool) (p : Point) (t e : ℕ) → t < T → e ≤ 3 → StartIn T (pick b (Start.At p t e) Start.Nothing)
-unfolding StartIn
-start-if T true p t e h k = (h, k)
-start-if T false p t e h k = tt
-
-first-start : (T : ℕ) (f : ℕ → Start) (k : ℕ) → ((j : ℕ) → j < k → StartIn T (f j)) → StartIn T (firstStart f 0 k)
-unfolding StartIn
-first-start T f k h = first-of (StartIn T) orElse Start.Nothing f tt (start-or T) 0 k (λ (j : ℕ) (a : 0 ≤ j) (b : j < 0 + k). h j (omega arith))
-
-containing-in : (vs : List Float) (ts : List ℕ) (T : ℕ) (p : Point) → StartIn T (triangleContaining vs ts T p)
-unfolding triangleContaining containedIn
-containing-in vs ts T p =
-    first-start T (containedIn vs ts p) T (λ (j : ℕ) (h : j < T).
-    start-if T (pointInTriangle p (vertex vs (corner ts j 0)) (vertex vs (corner ts j 1)) (vertex vs (corner ts j 2))) _ j noEdge h (omega arith))
-
-inner-in : (vs : List Float) (ts ns tags : List ℕ) (T t : ℕ) → t < T → StartIn T (innerEdgeOf vs ts ns tags t)
-unfolding innerEdgeOf innerEdge
-inner-in vs ts ns tags T t h =
-    first-start T (innerEdge vs ts ns tags t) 3 (λ (e : ℕ) (k : e < 3).
-    start-if T (eqb (neighbour ns t e) noNeighbour && (eqb (tagOf tags (corner ts t e)) inner && eqb (tagOf tags (corner ts t (onward e))) inner)) _ t e h (omega arith))
-
-centroid-in : (vs : List Float) (ts : List ℕ) (T v t : ℕ) → t < T → StartIn T (centroidWith vs ts v t)
-unfolding centroidWith
-centroid-in vs ts T v t h = start-if T (eqb (corner ts t 0) v || (eqb (corner ts t 1) v || eqb (corner ts t 2) v)) _ t noEdge h (omega arith)
-
-pick-start-in : (vs : List Float) (ts ns tags : List ℕ) (T : ℕ) (us : List Float) → StartIn T (pickStart vs ts ns tags T us)
-unfolding pickStart firstInner firstWith
-pick-start-in vs ts ns tags T us =
-    start-or T (firstStart (innerEdgeOf vs ts ns tags) 0 T) (firstStart (centroidWith vs ts (leastVertex us)) 0 T)
-    (first-start T (innerEdgeOf vs ts ns tags) T (inner-in vs ts ns tags T))
-    (first-start T (centroidWith vs ts (leastVertex us)) T (centroid-in vs ts T (leastVertex us)))
 
 -- what holds of the trail after the start pass: with a start in one of the triangles, or ended with 8 or 9
 pub starting-elim : (P : Trail → Type 0) (c : Content) (us : List Float)
     → ((p : Point) (t e : ℕ) → t < triangleCount c → e ≤ 3 → P (set-out (Start.At p t e) 0 (gradients flat (c .vertices) us (c .triangles))))
     → ((k : ℕ) → 0 < k → k ≤ 9 → P (set-out Start.Nothing k (gradients flat (c .vertices) us (c .triangles))))
     → P (starting c us)
-unfolding starting startFrom StartIn
+unfolding starting startFrom
 starting-elim P c us found lost = given (givenStart c)
   where
     from : (s : Start) (k : ℕ) → 0 < k → k ≤ 9 → StartIn (triangleCount c) s → P (set-out s k (gradients flat (c .vertices) us (c .triangles)))

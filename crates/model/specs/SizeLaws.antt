@@ -8,19 +8,18 @@ use mathlib.Core.Bool.{Bool, true, false, _&&_, false≢true}
 use mathlib.Core.List.{List, [], _∷_, _++_, zipWith}
 use lib.Dec.{eqb, leb, ltb}
 use lib.ListN.{length, getD, replicate, length-append, length-set, length-replicate}
-use lib.Ieee.{Float, binary64, inf, sub, lt}
+use lib.Ieee.{Float, binary64, sub, lt}
 use borrow.Author.Tests.{eqb-false}
 use Rattle.binary64.specs.Arith.{_⊘_}
-use Rattle.binary64.specs.Constants.{plusZero, small}
+use Rattle.binary64.specs.Constants.{plusZero}
 use Rattle.binary64.specs.Number.{pick, absOf}
 use Rattle.binary64.specs.Root.{root}
 use Rattle.plane.specs.declared.Point.{Point}
-use Rattle.plane.specs.declared.Hit.{Hit}
-use Rattle.plane.specs.Plane.{rayLineIntersection}
 use Rattle.stretch.specs.Vec.{dot, plus, less}
 use Rattle.stretch.specs.VecLaws.{length-zip}
 use Rattle.sparse.specs.Sparse.{Entry, matVec}
-use Rattle.mesh.specs.Mesh.{vertex, corner, neighbour, noNeighbour, onward, free, held, heldValue}
+use Rattle.sparse.specs.ProductLaws.{length-matVec}
+use Rattle.mesh.specs.Mesh.{neighbour, noNeighbour, free, held, heldValue}
 use Rattle.mesh.specs.Element.{flat}
 use Rattle.laplace.specs.Assembly.{Push, pushes, row, rows, lowered, coupled, allCoupled, settled, rightSide}
 use Rattle.conjugate.specs.Solver as Solver
@@ -31,10 +30,10 @@ use Rattle.pde.specs.declared.Side.{Side}
 use Rattle.pde.specs.declared.Beyond.{Beyond}
 use Rattle.pde.specs.declared.Crossing.{Crossing}
 use Rattle.pde.specs.declared.Walk.{Walk}
-use Rattle.pde.specs.declared.Nearest.{Nearest}
-use Rattle.pde.specs.Exit.{nearest, distance, offered, considered, exitEdge, orSide, firstSide, namesBack, entryEdge, cutEdge, cutTriangle, cutMatch}
+use Rattle.pde.specs.Exit.{exitEdge, entryEdge, cutMatch}
 use Rattle.pde.specs.Crossing.{gradientAt, magnitude, direction, valueIn, entering, beyond, left, crossing}
-use Rattle.pde.specs.PathLaws.{length-between}
+use Rattle.pde.specs.Bounds.{ExitIn, SideIn, BeyondIn, CrossingIn, exit-in, entry-in, cut-in}
+use Rattle.pde.specs.PathLaws.{length-between, length-closing}
 use Rattle.pde.specs.Path.{pieces, closes, between, closing, ended, gone, adds, added, walked}
 use Rattle.format.specs.Content.{Content, vertexCount, triangleCount, limitOf, toleranceOf}
 use Rattle.format.specs.Range.{InRange, OfWhole, Between}
@@ -44,7 +43,7 @@ use Rattle.format.specs.Content.{wholeOr}
 use Rattle.model.specs.Space.{roomOf, stepOf, factor}
 use Rattle.model.specs.Run.{Field, Trail, rule, matrixOf, rightOf, solved, solving, crossed, crossingPass}
 use Rattle.model.specs.Sized.{Sized, Vectors}
-use Rattle.model.specs.PassLaws.{first-of, gone-points, walked-elim}
+use Rattle.model.specs.PassLaws.{gone-points, walked-elim}
 
 -- ---- what every accepted sheet has
 
@@ -65,12 +64,7 @@ sized c h =
 
 -- ---- the vectors
 
-length-matVec : (rs : List (List Entry)) (x : List Float) → length (matVec rs x) ≡ length rs
-unfolding matVec
-length-matVec [] x = refl
-length-matVec (r ∷ rs) x = ap suc (length-matVec rs x)
-
-length-rows : (tags : List ℕ) (ps : List Push) (n : ℕ) → length (rows tags ps n) ≡ n
+pub length-rows : (tags : List ℕ) (ps : List Push) (n : ℕ) → length (rows tags ps n) ≡ n
 unfolding rows
 length-rows tags ps zero = refl
 length-rows tags ps (suc n) = rw (length-append, length-rows tags ps n) (add-one n)
@@ -175,13 +169,6 @@ gradients-length vs us (i ∷ j ∷ k ∷ ts) = omega (arith, gradients-length v
 
 -- ---- the points
 
-closing-length : (q : Point) (b : Beyond) → length (closing q b) ≡ 2 * closes b
-unfolding closing
-closing-length q Beyond.Border = refl
-closing-length q Beyond.Unnamed = refl
-closing-length q Beyond.Above = refl
-closing-length q (Beyond.Into t e) = refl
-
 added-length : (spacing : Float) (room : ℕ) (last : Bool) (w : Walk) (x : Crossing) → 2 * w .points + length (added spacing room w x) ≡ 2 * walked spacing room last w x .points
 unfolding walked
 added-length spacing room last w Crossing.Dull = omega arith
@@ -194,7 +181,7 @@ added-length spacing room last w (Crossing.Leaves q b) = go (ltb room (w .points
     go : (t : Bool) → 2 * w .points + length (pick t [] (between (w .position) q n (n - 1) ++ closing q b)) ≡ 2 * (pick t (ended w 7) (gone last w q b (n - 1 + closes b)) .points)
     go true = omega arith
     go false =
-        omega (arith, length-append (between (w .position) q n (n - 1)) (closing q b), length-between (w .position) q n (n - 1), closing-length q b, gone-points last w q b (n - 1 + closes b))
+        omega (arith, length-append (between (w .position) q n (n - 1)) (closing q b), length-between (w .position) q n (n - 1), length-closing q b, gone-points last w q b (n - 1 + closes b))
 
 pub crossing-path-length : (c : Content) (us : List Float) (t : Trail) → length (t .path) ≡ 2 * t .walk .points → length (crossingPass c us t .path) ≡ 2 * crossingPass c us t .walk .points
 unfolding crossingPass crossed
@@ -213,88 +200,9 @@ crossing-room c us t h =
 
 -- ---- the triangle that a crossing leads into
 
--- an exit is through one of the three edges
-unfoldable ExitIn : Exit → Type 0
-ExitIn (Exit.Through e p) = e < 3
-ExitIn Exit.Nothing = Unit {0}
-
-offered-in : (pos : Point) (e : ℕ) (h : Hit) (best : Nearest) → e < 3 → ExitIn (best .exit) → ExitIn (offered pos e h best .exit)
-unfolding ExitIn
-offered-in pos e Hit.Nothing best k b = b
-offered-in pos e (Hit.At p) best k b = go (lt small (distance pos p) && lt (distance pos p) (best .far))
-  where
-    go : (t : Bool) → ExitIn (pick t (nearest (distance pos p) (Exit.Through e p)) best .exit)
-    go true = k
-    go false = b
-
-considered-in : (vs : List Float) (ts : List ℕ) (t : ℕ) (pos dir : Point) (entry e : ℕ) (best : Nearest) → e < 3 → ExitIn (best .exit)
-    → ExitIn (considered vs ts t pos dir entry e best .exit)
-unfolding considered
-considered-in vs ts t pos dir entry e best k b = go (eqb e entry)
-  where
-    hit : Hit
-    hit = rayLineIntersection pos dir (vertex vs (corner ts t e)) (vertex vs (corner ts t (onward e)))
-
-    go : (u : Bool) → ExitIn (pick u best (offered pos e hit best) .exit)
-    go true = b
-    go false = offered-in pos e hit best k b
-
-exit-in : (vs : List Float) (ts : List ℕ) (t : ℕ) (pos dir : Point) (entry : ℕ) → ExitIn (exitEdge vs ts t pos dir entry)
-unfolding exitEdge ExitIn
-exit-in vs ts t pos dir entry =
-    considered-in vs ts t pos dir entry 2 _ (omega arith)
-    (considered-in vs ts t pos dir entry 1 _ (omega arith) (considered-in vs ts t pos dir entry 0 (nearest (inf false) Exit.Nothing) (omega arith) tt))
-
--- a side is an edge of one of the triangles
-unfoldable SideIn : ℕ → Side → Type 0
-SideIn T (Side.Of t e) = (t < T) × (e < 3)
-SideIn T Side.Nothing = Unit {0}
-
-side-or : (T : ℕ) (a b : Side) → SideIn T a → SideIn T b → SideIn T (orSide a b)
-unfolding SideIn
-side-or T (Side.Of t e) b h k = h
-side-or T Side.Nothing b h k = k
-
-side-if : (T : ℕ) (b : Bool) (t e : ℕ) → t < T → e < 3 → SideIn T (pick b (Side.Of t e) Side.Nothing)
-unfolding SideIn
-side-if T true t e h k = (h, k)
-side-if T false t e h k = tt
-
-first-side : (T : ℕ) (f : ℕ → Side) (k : ℕ) → ((j : ℕ) → j < k → SideIn T (f j)) → SideIn T (firstSide f 0 k)
-unfolding SideIn
-first-side T f k h = first-of (SideIn T) orSide Side.Nothing f tt (side-or T) 0 k (λ (j : ℕ) (a : 0 ≤ j) (b : j < 0 + k). h j (omega arith))
-
-entry-in : (ns : List ℕ) (T t prev : ℕ) → t < T → SideIn T (entryEdge ns t prev)
-unfolding entryEdge namesBack
-entry-in ns T t prev h = first-side T (namesBack ns t prev) 3 (λ (e : ℕ) (k : e < 3). side-if T (eqb (neighbour ns t e) prev) t e h k)
-
-cut-triangle-in : (ts ns : List ℕ) (T here a b t : ℕ) → t < T → SideIn T (cutTriangle ts ns here a b t)
-unfolding cutTriangle cutEdge SideIn
-cut-triangle-in ts ns T here a b t h = go (eqb t here)
-  where
-    edges : SideIn T (firstSide (cutEdge ts ns a b t) 0 3)
-    edges =
-        first-side T (cutEdge ts ns a b t) 3 (λ (e : ℕ) (k : e < 3).
-        side-if T (eqb (neighbour ns t e) noNeighbour && (eqb (corner ts t e) b && eqb (corner ts t (onward e)) a)) t e h k)
-
-    go : (u : Bool) → SideIn T (pick u Side.Nothing (firstSide (cutEdge ts ns a b t) 0 3))
-    go true = tt
-    go false = edges
-
-cut-in : (ts ns : List ℕ) (T here e : ℕ) → SideIn T (cutMatch ts ns T here e)
-unfolding cutMatch
-cut-in ts ns T here e = first-side T (cutTriangle ts ns here (corner ts here e) (corner ts here (onward e))) T (cut-triangle-in ts ns T here (corner ts here e) (corner ts here (onward e)))
-
--- beyond an exit is one of the triangles, by one of its edges, where it is any
-unfoldable BeyondIn : ℕ → Beyond → Type 0
-BeyondIn T Beyond.Border = Unit {0}
-BeyondIn T Beyond.Unnamed = Unit {0}
-BeyondIn T Beyond.Above = Unit {0}
-BeyondIn T (Beyond.Into t e) = (t < T) × (e < 3)
-
 entering-in : (above : Float) (vs : List Float) (ts : List ℕ) (us : List Float) (p : Point) (T : ℕ) (s : Side) (other : Beyond) → SideIn T s → BeyondIn T other
     → BeyondIn T (entering above vs ts us p s other)
-unfolding entering SideIn BeyondIn
+unfolding entering
 entering-in above vs ts us p T Side.Nothing other h k = k
 entering-in above vs ts us p T (Side.Of t e) other h k = go (lt above (valueIn vs ts us t p))
   where
@@ -304,7 +212,7 @@ entering-in above vs ts us p T (Side.Of t e) other h k = go (lt above (valueIn v
 
 beyond-in : (c : Content) → Sized c → (above : Float) (us : List Float) (t e : ℕ) (p : Point) → t < triangleCount c → e < 3
     → BeyondIn (triangleCount c) (beyond above (c .vertices) (c .triangles) (c .neighbours) (triangleCount c) us t e p)
-unfolding beyond neighbour BeyondIn
+unfolding beyond neighbour
 beyond-in c s above us t e p h k = go (eqb next noNeighbour) refl
   where
     next : ℕ
@@ -319,21 +227,14 @@ beyond-in c s above us t e p h k = go (eqb next noNeighbour) refl
     go true z = entering-in above (c .vertices) (c .triangles) us p (triangleCount c) _ Beyond.Border (cut-in (c .triangles) (c .neighbours) (triangleCount c) t e) tt
     go false z = entering-in above (c .vertices) (c .triangles) us p (triangleCount c) _ Beyond.Unnamed (entry-in (c .neighbours) (triangleCount c) next t (range (eqb-false next noNeighbour z))) tt
 
-unfoldable CrossingIn : ℕ → Crossing → Type 0
-unfolding BeyondIn
-CrossingIn T Crossing.Dull = Unit {0}
-CrossingIn T Crossing.Stuck = Unit {0}
-CrossingIn T (Crossing.Leaves q b) = BeyondIn T b
-
 left-in : (c : Content) → Sized c → (above : Float) (us : List Float) (t : ℕ) (x : Exit) → t < triangleCount c → ExitIn x
     → CrossingIn (triangleCount c) (left above (c .vertices) (c .triangles) (c .neighbours) (triangleCount c) us t x)
-unfolding CrossingIn ExitIn
 left-in c s above us t Exit.Nothing h k = tt
 left-in c s above us t (Exit.Through e p) h k = beyond-in c s above us t e p h k
 
 crossing-in : (c : Content) → Sized c → (us gs : List Float) (pos : Point) (t entry : ℕ) → t < triangleCount c
     → CrossingIn (triangleCount c) (crossing rule (c .vertices) (c .triangles) (c .neighbours) (triangleCount c) us gs (stepOf c) pos t entry)
-unfolding crossing CrossingIn
+unfolding crossing
 crossing-in c s us gs pos t entry h = go (lt (magnitude (gradientAt gs t)) (rule .dull))
   where
     exit : Exit
@@ -349,14 +250,13 @@ pub record WalkIn (T : ℕ) (w : Walk) : Type 0 where
   pub edge : w .edge ≤ 3
 
 gone-in : (T : ℕ) (last : Bool) (w : Walk) (q : Point) (b : Beyond) (k : ℕ) → WalkIn T w → BeyondIn T b → WalkIn T (gone last w q b k)
-unfolding BeyondIn
 gone-in T last w q Beyond.Border k h b = record { triangle = h .triangle; edge = h .edge }
 gone-in T last w q Beyond.Unnamed k h b = record { triangle = h .triangle; edge = h .edge }
 gone-in T last w q Beyond.Above k h b = record { triangle = h .triangle; edge = h .edge }
 gone-in T last w q (Beyond.Into t e) k h b = record { triangle = b .0; edge = omega arith }
 
 pub crossing-walk : (c : Content) → Sized c → (us : List Float) (t : Trail) → WalkIn (triangleCount c) (t .walk) → WalkIn (triangleCount c) (crossingPass c us t .walk)
-unfolding crossingPass crossed CrossingIn
+unfolding crossingPass crossed
 crossing-walk c s us t h =
     walked-elim (WalkIn (triangleCount c)) (rule .spacing) (roomOf c) last (t .walk) x
     (λ (k : ℕ) (n : 0 < k) (m : k ≤ 7). record { triangle = h .triangle; edge = h .edge })
