@@ -20,11 +20,10 @@ use Rattle.conjugate.specs.Solver.{Turn, halted, reached, moved}
 use Rattle.pde.specs.declared.Start.{Start}
 use Rattle.pde.specs.declared.Walk.{Walk}
 use Rattle.pde.specs.declared.Crossing.{Crossing}
-use Rattle.pde.specs.PathLaws.{length-between, length-closing}
-use Rattle.pde.specs.Path.{pieces, closes, between, closing, ended, gone, added, walked}
+use Rattle.pde.specs.PathLaws.{walked-more, walked-most}
+use Rattle.pde.specs.Path.{added}
 use Rattle.model.specs.Space.{factor}
 use Rattle.model.specs.Run.{rule, nextBy}
-use Rattle.model.specs.PassLaws.{gone-points}
 use Rattle.work.specs.declared.Given.{Given}
 use Rattle.work.specs.declared.Plan.{Plan}
 use Rattle.work.specs.declared.Stand.{Stand}
@@ -86,24 +85,8 @@ norms-most plan s h = go (eqb (s .end) 0) (h .norms)
 
 -- ---- what a crossing adds fits
 
-crossing-fits : (spacing : Float) (room : ℕ) (last : Bool) (w : Walk) (x : Crossing) → w .points ≤ room
-    → (2 * w .points + length (added spacing room w x) ≤ 2 * room) × (walked spacing room last w x .points ≤ room)
-unfolding walked
-crossing-fits spacing room last w Crossing.Dull h = (omega arith, h)
-crossing-fits spacing room last w Crossing.Stuck h = (omega arith, h)
-crossing-fits spacing room last w (Crossing.Leaves q b) h = go (ltb room (w .points + (n - 1 + closes b))) refl
-  where
-    n : ℕ
-    n = pieces spacing (w .position) q
-
-    go : (t : Bool) → ltb room (w .points + (n - 1 + closes b)) ≡ t
-        → (2 * w .points + length (pick t [] (between (w .position) q n (n - 1) ++ closing q b)) ≤ 2 * room) × (pick t (ended w 7) (gone last w q b (n - 1 + closes b)) .points ≤ room)
-    go true e = (omega arith, h)
-    go false e =
-        let k : w .points + (n - 1 + closes b) ≤ room = ltb-false room (w .points + (n - 1 + closes b)) e in (
-          omega (arith, length-append (between (w .position) q n (n - 1)) (closing q b), length-between (w .position) q n (n - 1), length-closing q b),
-          omega (arith, gone-points last w q b (n - 1 + closes b)),
-        )
+crossing-fits : (room : ℕ) (last : Bool) (w : Walk) (x : Crossing) → w .points ≤ room → 2 * w .points + length (added room w x) ≤ 2 * room
+crossing-fits room last w x h = omega (arith, walked-more room last w x, walked-most room last w x h)
 
 -- ---- a pass
 
@@ -141,7 +124,7 @@ module _ (plan : Plan) (words : List ℕ) (room : 1 ≤ plan .room) where
   cross-fine : (f : List Float) (s : Stand) → InRange plan s → Fine plan s (crossStep plan words f s)
   unfolding crossStep
   cross-fine f s h =
-      record { gives = h .points; stand = record { norms = h .norms; points = crossing-fits (rule .spacing) (plan .room) (eqb (s .crossings + 1) (factor * plan .t)) (s .walk) (crossingOf plan words f s) (h .points) .1 } }
+      record { gives = h .points; stand = record { norms = h .norms; points = walked-most (plan .room) (eqb (s .crossings + 1) (factor * plan .t)) (s .walk) (crossingOf plan words f s) (h .points) } }
 
   by-fine : (f : List Float) (s : Stand) → InRange plan s → (e b g : Bool) → eqb (s .end) 0 ≡ b → Fine plan s (stepBy plan words f s (nextBy e b g))
   unfolding solveStep beginStep
@@ -168,7 +151,7 @@ module _ (plan : Plan) (words : List ℕ) (room : 1 ≤ plan .room) where
   path-given s Gives.Nothing p h = same (2 * plan .room) p
   path-given s (Gives.Norm v) p h = same (2 * plan .room) p
   path-given s (Gives.First q) p h = kept-splice (2 * plan .room) p 0 (q .x ∷ q .y ∷ []) (omega arith)
-  path-given s (Gives.Crossed x) p h = kept-splice (2 * plan .room) p (2 * s .walk .points) (added (rule .spacing) (plan .room) (s .walk) x) (crossing-fits (rule .spacing) (plan .room) true (s .walk) x h .0)
+  path-given s (Gives.Crossed x) p h = kept-splice (2 * plan .room) p (2 * s .walk .points) (added (plan .room) (s .walk) x) (crossing-fits (plan .room) true (s .walk) x h)
 
   -- a changed front, and what lies beyond it
   module _ (w : Work) (fits : atNorms (plan .n) (plan .t) ≤ length (w .floats)) where

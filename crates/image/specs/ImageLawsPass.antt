@@ -203,12 +203,12 @@ module _ (c : Content) (z : Sized c) (s : State) (h : Shaped c s) (p : ℕ) (m :
   crossed-image : (x : Crossing) → Shaped c (state (s .field) (crossed (roomOf c) (factor * t) (s .trail) x))
       → written plan here (record {
         front = F;
-        stand = record { place = p + 1; rs = s .field .solve .rs; norms = length (s .field .norms); end = s .field .end; walk = walked (rule .spacing) (roomOf c) (eqb (s .trail .crossings + 1) (factor * t)) (s .trail .walk) x; crossings = s .trail .crossings + 1 };
+        stand = record { place = p + 1; rs = s .field .solve .rs; norms = length (s .field .norms); end = s .field .end; walk = walked (roomOf c) (eqb (s .trail .crossings + 1) (factor * t)) (s .trail .walk) x; crossings = s .trail .crossings + 1 };
         gives = Gives.Crossed x;
       }) ≡ imageOf c (state (s .field) (crossed (roomOf c) (factor * t) (s .trail) x)) (suc p) m floats path
   unfolding crossed floatsOf pathOf
   crossed-image x h′ =
-      let new = added (rule .spacing) (roomOf c) (s .trail .walk) x in
+      let new = added (roomOf c) (s .trail .walk) x in
       let long : length (s .trail .path ++ new) ≤ 2 * roomOf c = omega (arith, h′ .path, h′ .room) in
       work-is (plain lies F refl) (path-more new (2 * s .trail .walk .points) (h .path) long) (rw (add-one p))
 

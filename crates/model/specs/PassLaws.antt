@@ -24,7 +24,8 @@ use Rattle.pde.specs.declared.Beyond.{Beyond}
 use Rattle.pde.specs.declared.Crossing.{Crossing}
 use Rattle.pde.specs.Start.{triangleContaining, pickStart}
 use Rattle.pde.specs.Crossing.{crossing}
-use Rattle.pde.specs.Path.{pieces, closes, ended, gone, adds, walked}
+use Rattle.pde.specs.PathLaws.{gone-points}
+use Rattle.pde.specs.Path.{closes, ended, gone, adds, walked}
 use Rattle.format.specs.Content.{Content, triangleCount, limitOf, toleranceOf}
 use Rattle.model.specs.Space.{roomOf, stepOf, factor}
 use Rattle.model.specs.Run.{State, Field, Trail, state, rule, matrixOf, solved, solving, givenStart, set-out, startFrom, starting, crossed, crossingPass, nextBy, nextOf, passBy, pass, finished}
@@ -149,19 +150,19 @@ starting-elim P c us found lost = given (givenStart c)
 -- ---- a crossing
 
 -- what holds of the walk after a crossing, by its ends: 1 and 2, 7, 3 to 5, or on with 6 or none
-pub walked-elim : (P : Walk → Type 0) (spacing : Float) (room : ℕ) (last : Bool) (w : Walk) (x : Crossing)
+pub walked-elim : (P : Walk → Type 0) (room : ℕ) (last : Bool) (w : Walk) (x : Crossing)
     → ((k : ℕ) → 0 < k → k ≤ 7 → P (ended w k))
-    → ((q : Point) (b : Beyond) → x ≡ Crossing.Leaves q b → w .points + adds spacing w x ≤ room → P (gone last w q b (adds spacing w x)))
-    → P (walked spacing room last w x)
+    → ((q : Point) (n : ℕ) (b : Beyond) → x ≡ Crossing.Leaves q n b → w .points + adds x ≤ room → P (gone last w q b (adds x)))
+    → P (walked room last w x)
 unfolding walked
-walked-elim P spacing room last w Crossing.Dull stays goes = stays 1 (omega arith) (omega arith)
-walked-elim P spacing room last w Crossing.Stuck stays goes = stays 2 (omega arith) (omega arith)
-walked-elim P spacing room last w (Crossing.Leaves q b) stays goes = go (ltb room (w .points + (pieces spacing (w .position) q - 1 + closes b))) refl
+walked-elim P room last w Crossing.Dull stays goes = stays 1 (omega arith) (omega arith)
+walked-elim P room last w Crossing.Stuck stays goes = stays 2 (omega arith) (omega arith)
+walked-elim P room last w (Crossing.Leaves q n b) stays goes = go (ltb room (w .points + (n - 1 + closes b))) refl
   where
-    go : (t : Bool) → ltb room (w .points + (pieces spacing (w .position) q - 1 + closes b)) ≡ t
-        → P (pick t (ended w 7) (gone last w q b (pieces spacing (w .position) q - 1 + closes b)))
+    go : (t : Bool) → ltb room (w .points + (n - 1 + closes b)) ≡ t
+        → P (pick t (ended w 7) (gone last w q b (n - 1 + closes b)))
     go true e = stays 7 (omega arith) (omega arith)
-    go false e = goes q b refl (ltb-false room (w .points + (pieces spacing (w .position) q - 1 + closes b)) e)
+    go false e = goes q n b refl (ltb-false room (w .points + (n - 1 + closes b)) e)
 
 -- the last crossing has an end
 gone-last : (w : Walk) (q : Point) (b : Beyond) (k : ℕ) → gone true w q b k .end ≢ 0
@@ -170,24 +171,18 @@ gone-last w q Beyond.Unnamed k = omega arith
 gone-last w q Beyond.Above k = omega arith
 gone-last w q (Beyond.Into t e) k = omega arith
 
-pub walked-last : (spacing : Float) (room : ℕ) (w : Walk) (x : Crossing) → walked spacing room true w x .end ≢ 0
-walked-last spacing room w x =
-    walked-elim (λ (v : Walk). v .end ≢ 0) spacing room true w x
+pub walked-last : (room : ℕ) (w : Walk) (x : Crossing) → walked room true w x .end ≢ 0
+walked-last room w x =
+    walked-elim (λ (v : Walk). v .end ≢ 0) room true w x
     (λ (k : ℕ) (h : 0 < k) (m : k ≤ 7). omega arith)
-    (λ (q : Point) (b : Beyond) (e : x ≡ Crossing.Leaves q b) (h : w .points + adds spacing w x ≤ room). gone-last w q b (adds spacing w x))
-
-pub gone-points : (last : Bool) (w : Walk) (q : Point) (b : Beyond) (k : ℕ) → gone last w q b k .points ≡ w .points + k
-gone-points last w q Beyond.Border k = refl
-gone-points last w q Beyond.Unnamed k = refl
-gone-points last w q Beyond.Above k = refl
-gone-points last w q (Beyond.Into t e) k = refl
+    (λ (q : Point) (n : ℕ) (b : Beyond) (e : x ≡ Crossing.Leaves q n b) (h : w .points + adds x ≤ room). gone-last w q b (adds x))
 
 -- a crossing takes no point away
-pub walked-points : (spacing : Float) (room : ℕ) (last : Bool) (w : Walk) (x : Crossing) → w .points ≤ walked spacing room last w x .points
-walked-points spacing room last w x =
-    walked-elim (λ (v : Walk). w .points ≤ v .points) spacing room last w x
+pub walked-points : (room : ℕ) (last : Bool) (w : Walk) (x : Crossing) → w .points ≤ walked room last w x .points
+walked-points room last w x =
+    walked-elim (λ (v : Walk). w .points ≤ v .points) room last w x
     (λ (k : ℕ) (h : 0 < k) (m : k ≤ 7). le-refl (w .points))
-    (λ (q : Point) (b : Beyond) (e : x ≡ Crossing.Leaves q b) (h : w .points + adds spacing w x ≤ room). omega (arith, gone-points last w q b (adds spacing w x)))
+    (λ (q : Point) (n : ℕ) (b : Beyond) (e : x ≡ Crossing.Leaves q n b) (h : w .points + adds x ≤ room). omega (arith, gone-points last w q b (adds x)))
 
 -- a crossing that has no end is not the last, and counts
 pub crossing-on : (c : Content) (us : List Float) (t : Trail) → t .crossings < factor * triangleCount c → crossingPass c us t .walk .end ≡ 0
@@ -198,8 +193,8 @@ crossing-on c us t h = go (eqb (t .crossings + 1) (factor * triangleCount c)) re
     x : Crossing
     x = crossing rule (c .vertices) (c .triangles) (c .neighbours) (triangleCount c) us (t .gradients) (stepOf c) (t .walk .position) (t .walk .triangle) (t .walk .edge)
 
-    go : (b : Bool) → eqb (t .crossings + 1) (factor * triangleCount c) ≡ b → walked (rule .spacing) (roomOf c) b (t .walk) x .end ≡ 0 → t .crossings + 1 < factor * triangleCount c
-    go true e k = absurd (walked-last (rule .spacing) (roomOf c) (t .walk) x k)
+    go : (b : Bool) → eqb (t .crossings + 1) (factor * triangleCount c) ≡ b → walked (roomOf c) b (t .walk) x .end ≡ 0 → t .crossings + 1 < factor * triangleCount c
+    go true e k = absurd (walked-last (roomOf c) (t .walk) x k)
     go false e k = let n : t .crossings + 1 ≢ factor * triangleCount c = eqb-false _ _ e in omega arith
 
 pub crossing-counts : (c : Content) (us : List Float) (t : Trail) → crossingPass c us t .crossings ≡ t .crossings + 1
@@ -208,7 +203,7 @@ crossing-counts c us t = refl
 
 pub crossing-points : (c : Content) (us : List Float) (t : Trail) → t .walk .points ≤ crossingPass c us t .walk .points
 unfolding crossingPass crossed
-crossing-points c us t = walked-points (rule .spacing) (roomOf c) (eqb (t .crossings + 1) (factor * triangleCount c)) (t .walk) _
+crossing-points c us t = walked-points (roomOf c) (eqb (t .crossings + 1) (factor * triangleCount c)) (t .walk) _
 
 -- ---- how great an end is
 
@@ -239,9 +234,9 @@ gone-end last w q (Beyond.Into t e) k = go last
 pub crossing-end : (c : Content) (us : List Float) (t : Trail) → crossingPass c us t .walk .end ≤ 9
 unfolding crossingPass crossed
 crossing-end c us t =
-    walked-elim (λ (v : Walk). v .end ≤ 9) (rule .spacing) (roomOf c) last (t .walk) x
+    walked-elim (λ (v : Walk). v .end ≤ 9) (roomOf c) last (t .walk) x
     (λ (k : ℕ) (h : 0 < k) (m : k ≤ 7). omega arith)
-    (λ (q : Point) (b : Beyond) (e : x ≡ Crossing.Leaves q b) (h : t .walk .points + adds (rule .spacing) (t .walk) x ≤ roomOf c). gone-end last (t .walk) q b (adds (rule .spacing) (t .walk) x))
+    (λ (q : Point) (n : ℕ) (b : Beyond) (e : x ≡ Crossing.Leaves q n b) (h : t .walk .points + adds x ≤ roomOf c). gone-end last (t .walk) q b (adds x))
   where
     last : Bool
     last = eqb (t .crossings + 1) (factor * triangleCount c)

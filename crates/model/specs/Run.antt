@@ -121,8 +121,8 @@ starting c us = startFrom (givenStart c) c us (gradients flat (c .vertices) us (
 unfoldable pub crossed : ℕ → ℕ → Trail → Crossing → Trail
 crossed room most t x = record {
   gradients = t .gradients;
-  walk = walked (rule .spacing) room (eqb (t .crossings + 1) most) (t .walk) x;
-  path = t .path ++ added (rule .spacing) room (t .walk) x;
+  walk = walked room (eqb (t .crossings + 1) most) (t .walk) x;
+  path = t .path ++ added room (t .walk) x;
   crossings = t .crossings + 1;
 }
 

@@ -33,8 +33,8 @@ use Rattle.pde.specs.declared.Walk.{Walk}
 use Rattle.pde.specs.Exit.{exitEdge, entryEdge, cutMatch}
 use Rattle.pde.specs.Crossing.{gradientAt, magnitude, direction, valueIn, entering, beyond, left, crossing}
 use Rattle.pde.specs.Bounds.{ExitIn, SideIn, BeyondIn, CrossingIn, exit-in, entry-in, cut-in}
-use Rattle.pde.specs.PathLaws.{length-between, length-closing}
-use Rattle.pde.specs.Path.{pieces, closes, between, closing, ended, gone, adds, added, walked}
+use Rattle.pde.specs.PathLaws.{gone-points, walked-more}
+use Rattle.pde.specs.Path.{ended, gone, adds, added, walked}
 use Rattle.format.specs.Content.{Content, vertexCount, triangleCount, limitOf, toleranceOf}
 use Rattle.format.specs.Range.{InRange, OfWhole, Between}
 use Rattle.format.specs.declared.Whole.{Whole}
@@ -43,7 +43,7 @@ use Rattle.format.specs.Content.{wholeOr}
 use Rattle.model.specs.Space.{roomOf, stepOf, factor}
 use Rattle.model.specs.Run.{Field, Trail, rule, matrixOf, rightOf, solved, solving, crossed, crossingPass}
 use Rattle.model.specs.Sized.{Sized, Vectors}
-use Rattle.model.specs.PassLaws.{gone-points, walked-elim}
+use Rattle.model.specs.PassLaws.{walked-elim}
 
 -- ---- what every accepted sheet has
 
@@ -169,31 +169,17 @@ gradients-length vs us (i ∷ j ∷ k ∷ ts) = omega (arith, gradients-length v
 
 -- ---- the points
 
-added-length : (spacing : Float) (room : ℕ) (last : Bool) (w : Walk) (x : Crossing) → 2 * w .points + length (added spacing room w x) ≡ 2 * walked spacing room last w x .points
-unfolding walked
-added-length spacing room last w Crossing.Dull = omega arith
-added-length spacing room last w Crossing.Stuck = omega arith
-added-length spacing room last w (Crossing.Leaves q b) = go (ltb room (w .points + (n - 1 + closes b)))
-  where
-    n : ℕ
-    n = pieces spacing (w .position) q
-
-    go : (t : Bool) → 2 * w .points + length (pick t [] (between (w .position) q n (n - 1) ++ closing q b)) ≡ 2 * (pick t (ended w 7) (gone last w q b (n - 1 + closes b)) .points)
-    go true = omega arith
-    go false =
-        omega (arith, length-append (between (w .position) q n (n - 1)) (closing q b), length-between (w .position) q n (n - 1), length-closing q b, gone-points last w q b (n - 1 + closes b))
-
 pub crossing-path-length : (c : Content) (us : List Float) (t : Trail) → length (t .path) ≡ 2 * t .walk .points → length (crossingPass c us t .path) ≡ 2 * crossingPass c us t .walk .points
 unfolding crossingPass crossed
-crossing-path-length c us t h = rw (length-append, h) (added-length (rule .spacing) (roomOf c) (eqb (t .crossings + 1) (factor * triangleCount c)) (t .walk) _)
+crossing-path-length c us t h = rw (length-append, h) (walked-more (roomOf c) (eqb (t .crossings + 1) (factor * triangleCount c)) (t .walk) _)
 
 pub crossing-room : (c : Content) (us : List Float) (t : Trail) → t .walk .points ≤ roomOf c → crossingPass c us t .walk .points ≤ roomOf c
 unfolding crossingPass crossed
 crossing-room c us t h =
-    walked-elim (λ (v : Walk). v .points ≤ roomOf c) (rule .spacing) (roomOf c) (eqb (t .crossings + 1) (factor * triangleCount c)) (t .walk) x
+    walked-elim (λ (v : Walk). v .points ≤ roomOf c) (roomOf c) (eqb (t .crossings + 1) (factor * triangleCount c)) (t .walk) x
     (λ (k : ℕ) (n : 0 < k) (m : k ≤ 7). h)
-    (λ (q : Point) (b : Beyond) (e : x ≡ Crossing.Leaves q b) (k : t .walk .points + adds (rule .spacing) (t .walk) x ≤ roomOf c).
-    omega (arith, gone-points (eqb (t .crossings + 1) (factor * triangleCount c)) (t .walk) q b (adds (rule .spacing) (t .walk) x)))
+    (λ (q : Point) (n : ℕ) (b : Beyond) (e : x ≡ Crossing.Leaves q n b) (k : t .walk .points + adds x ≤ roomOf c).
+    omega (arith, gone-points (eqb (t .crossings + 1) (factor * triangleCount c)) (t .walk) q b (adds x)))
   where
     x : Crossing
     x = crossing rule (c .vertices) (c .triangles) (c .neighbours) (triangleCount c) us (t .gradients) (stepOf c) (t .walk .position) (t .walk .triangle) (t .walk .edge)
@@ -227,10 +213,10 @@ beyond-in c s above us t e p h k = go (eqb next noNeighbour) refl
     go true z = entering-in above (c .vertices) (c .triangles) us p (triangleCount c) _ Beyond.Border (cut-in (c .triangles) (c .neighbours) (triangleCount c) t e) tt
     go false z = entering-in above (c .vertices) (c .triangles) us p (triangleCount c) _ Beyond.Unnamed (entry-in (c .neighbours) (triangleCount c) next t (range (eqb-false next noNeighbour z))) tt
 
-left-in : (c : Content) → Sized c → (above : Float) (us : List Float) (t : ℕ) (x : Exit) → t < triangleCount c → ExitIn x
-    → CrossingIn (triangleCount c) (left above (c .vertices) (c .triangles) (c .neighbours) (triangleCount c) us t x)
-left-in c s above us t Exit.Nothing h k = tt
-left-in c s above us t (Exit.Through e p) h k = beyond-in c s above us t e p h k
+left-in : (c : Content) → Sized c → (us : List Float) (pos : Point) (t : ℕ) (x : Exit) → t < triangleCount c → ExitIn x
+    → CrossingIn (triangleCount c) (left rule (c .vertices) (c .triangles) (c .neighbours) (triangleCount c) us pos t x)
+left-in c s us pos t Exit.Nothing h k = tt
+left-in c s us pos t (Exit.Through e p) h k = beyond-in c s (rule .above) us t e p h k
 
 crossing-in : (c : Content) → Sized c → (us gs : List Float) (pos : Point) (t entry : ℕ) → t < triangleCount c
     → CrossingIn (triangleCount c) (crossing rule (c .vertices) (c .triangles) (c .neighbours) (triangleCount c) us gs (stepOf c) pos t entry)
@@ -240,9 +226,9 @@ crossing-in c s us gs pos t entry h = go (lt (magnitude (gradientAt gs t)) (rule
     exit : Exit
     exit = exitEdge (c .vertices) (c .triangles) t pos (direction (stepOf c) (gradientAt gs t) (magnitude (gradientAt gs t))) entry
 
-    go : (b : Bool) → CrossingIn (triangleCount c) (pick b Crossing.Dull (left (rule .above) (c .vertices) (c .triangles) (c .neighbours) (triangleCount c) us t exit))
+    go : (b : Bool) → CrossingIn (triangleCount c) (pick b Crossing.Dull (left rule (c .vertices) (c .triangles) (c .neighbours) (triangleCount c) us pos t exit))
     go true = tt
-    go false = left-in c s (rule .above) us t exit h (exit-in (c .vertices) (c .triangles) t pos _ entry)
+    go false = left-in c s us pos t exit h (exit-in (c .vertices) (c .triangles) t pos _ entry)
 
 -- a walk is in one of the triangles, which it entered by an edge or none
 pub record WalkIn (T : ℕ) (w : Walk) : Type 0 where
@@ -258,10 +244,10 @@ gone-in T last w q (Beyond.Into t e) k h b = record { triangle = b .0; edge = om
 pub crossing-walk : (c : Content) → Sized c → (us : List Float) (t : Trail) → WalkIn (triangleCount c) (t .walk) → WalkIn (triangleCount c) (crossingPass c us t .walk)
 unfolding crossingPass crossed
 crossing-walk c s us t h =
-    walked-elim (WalkIn (triangleCount c)) (rule .spacing) (roomOf c) last (t .walk) x
+    walked-elim (WalkIn (triangleCount c)) (roomOf c) last (t .walk) x
     (λ (k : ℕ) (n : 0 < k) (m : k ≤ 7). record { triangle = h .triangle; edge = h .edge })
-    (λ (q : Point) (b : Beyond) (e : x ≡ Crossing.Leaves q b) (k : t .walk .points + adds (rule .spacing) (t .walk) x ≤ roomOf c).
-    gone-in (triangleCount c) last (t .walk) q b (adds (rule .spacing) (t .walk) x) h (rw e at inside))
+    (λ (q : Point) (n : ℕ) (b : Beyond) (e : x ≡ Crossing.Leaves q n b) (k : t .walk .points + adds x ≤ roomOf c).
+    gone-in (triangleCount c) last (t .walk) q b (adds x) h (rw e at inside))
   where
     last : Bool
     last = eqb (t .crossings + 1) (factor * triangleCount c)

@@ -3,16 +3,21 @@ use mathlib.Core.Path.{_≡_, refl, sym, ap, _∙_}
 use mathlib.Core.Bool.{true, false}
 use mathlib.Core.List.{List}
 use Prim.Native.Nat.{ℕ, _+_, _≤_, _<_}
+use native.Mathlib.Numerals.{add-one}
+use native.Mathlib.Omega.{arith}
 use lib.Dec.{eqb}
 use borrow.Author.Tests.{eq-eqb, ne-eqb}
-use lib.Ieee.{inf, div, ofBits}
+use lib.Ieee.{Float, inf, div, ofBits}
 use Rattle.binary64.specs.Arith.{_⊘_}
 use Rattle.binary64.specs.Constants.{plusZero, one}
 use Rattle.mesh.specs.Mesh.{corner, neighbour, onward}
 use Rattle.pde.specs.Search.{firstOf}
 use Rattle.pde.specs.SearchLaws.{leftOf, left-all, left-enter, left-skip, left-found, left-done}
 use Rattle.pde.specs.declared.Side.{Side}
-use Rattle.pde.specs.Exit.{orSide, namesBack, entryEdge, isCut, cutEdge, cutTriangle, cutMatch}
+use Rattle.plane.specs.declared.Point.{Point}
+use Rattle.pde.specs.declared.Exit.{Exit}
+use Rattle.pde.specs.declared.Nearest.{Nearest}
+use Rattle.pde.specs.Exit.{nearest, considered, nearestOf, orSide, namesBack, entryEdge, isCut, cutEdge, cutTriangle, cutMatch}
 
 -- what is left of a search for a side, and then `rest`
 unfoldable pub sideLeft : Side → (ℕ → Side) → ℕ → ℕ → Side
@@ -88,3 +93,15 @@ module _ (ts ns : List ℕ) (a b t e : ℕ) where
 pub infinite : one ⊘ plusZero ≡ inf false
 unfolding div ofBits
 infinite = refl
+
+module _ (vs : List Float) (ts : List ℕ) (t : ℕ) (pos dir : Point) (entry : ℕ) where
+  pub nearest-none : nearest (one ⊘ plusZero) Exit.Nothing ≡ nearestOf vs ts t pos dir entry 0
+  unfolding nearestOf
+  nearest-none = rw infinite
+
+  pub nearest-step : (e : ℕ) {best next : Nearest} → next ≡ considered vs ts t pos dir entry e best → best ≡ nearestOf vs ts t pos dir entry e → next ≡ nearestOf vs ts t pos dir entry (e + 1)
+  unfolding nearestOf
+  nearest-step e h b = rw (add-one, ← b) h
+
+  pub nearest-done : {e : ℕ} {best : Nearest} → 3 ≤ e → e ≤ 3 → best ≡ nearestOf vs ts t pos dir entry e → best ≡ nearestOf vs ts t pos dir entry 3
+  nearest-done {e} l m b = let h : e ≡ 3 = omega arith in rw h at b

@@ -1,4 +1,5 @@
 pub mod CrossLaws
+pub mod LeavingLaws
 pub mod EdgeLaws
 pub mod PointLaws
 pub mod LengthLaws

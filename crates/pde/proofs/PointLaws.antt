@@ -19,7 +19,7 @@ use Rattle.mesh.specs.Pair.{pair, pair-step}
 use Rattle.pde.specs.declared.Beyond.{Beyond}
 use Rattle.pde.specs.declared.Crossing.{Crossing}
 use Rattle.pde.specs.declared.Walk.{Walk}
-use Rattle.pde.specs.Path.{pieces, partWay, along, between, closing, closes, ended, gone, added, walked}
+use Rattle.pde.specs.Path.{partWay, along, between, closing, closes, ended, gone, added, walked}
 use Rattle.pde.specs.PathLaws.{length-along, length-between}
 use Rattle.pde.specs.Work.{Roomy}
 
@@ -49,45 +49,45 @@ closing-put s at q = rw add-zero at (pair-step s s at 0 [] q refl (sym (splice-n
 
 -- ---- out of a triangle
 
-module _ (spacing : Float) (room : ℕ) (w : Walk) (q : Point) (b : Beyond) {n i e : ℕ} (isn : n ≡ pieces spacing (w .position) q) (isi : i ≡ n - 1) (ise : e ≡ closes b) (held : w .points ≤ room) where
-  full : room - w .points < i + e → ltb room (w .points + (pieces spacing (w .position) q - 1 + closes b)) ≡ true
-  full f = lt-ltb room (w .points + (pieces spacing (w .position) q - 1 + closes b)) (omega arith)
+module _ (room : ℕ) (w : Walk) (q : Point) (n : ℕ) (b : Beyond) {i e : ℕ} (isi : i ≡ n - 1) (ise : e ≡ closes b) (held : w .points ≤ room) where
+  full : room - w .points < i + e → ltb room (w .points + (n - 1 + closes b)) ≡ true
+  full f = lt-ltb room (w .points + (n - 1 + closes b)) (omega arith)
 
-  fits : i + e ≤ room - w .points → ltb room (w .points + (pieces spacing (w .position) q - 1 + closes b)) ≡ false
-  fits f = le-ltb room (w .points + (pieces spacing (w .position) q - 1 + closes b)) (omega arith)
+  fits : i + e ≤ room - w .points → ltb room (w .points + (n - 1 + closes b)) ≡ false
+  fits f = le-ltb room (w .points + (n - 1 + closes b)) (omega arith)
 
   -- the points would not fit
-  pub left-full : (last : Bool) {r : Walk} → room - w .points < i + e → r ≡ ended w 7 → r ≡ walked spacing room last w (Crossing.Leaves q b)
+  pub left-full : (last : Bool) {r : Walk} → room - w .points < i + e → r ≡ ended w 7 → r ≡ walked room last w (Crossing.Leaves q n b)
   unfolding walked
   left-full last f p = rw (full f) p
 
-  pub put-full : (path : List Float) → room - w .points < i + e → path ≡ splice path (2 * w .points) (added spacing room w (Crossing.Leaves q b))
+  pub put-full : (path : List Float) → room - w .points < i + e → path ≡ splice path (2 * w .points) (added room w (Crossing.Leaves q n b))
   put-full path f = rw (full f) (sym (splice-nil path (2 * w .points)))
 
   -- they fit
-  pub left-on : (last : Bool) {r : Walk} → i + e ≤ room - w .points → r ≡ gone last w q b (i + e) → r ≡ walked spacing room last w (Crossing.Leaves q b)
+  pub left-on : (last : Bool) {r : Walk} → i + e ≤ room - w .points → r ≡ gone last w q b (i + e) → r ≡ walked room last w (Crossing.Leaves q n b)
   unfolding walked
-  left-on last f p = rw (fits f, ← isn, ← isi, ← ise) p
+  left-on last f p = rw (fits f, ← isi, ← ise) p
 
   pub put-on : (path : List Float) {path′ path″ : List Float} → i + e ≤ room - w .points → path′ ≡ splice path (2 * w .points) (between (w .position) q n i)
-      → path″ ≡ splice path′ (2 * (w .points + i)) (closing q b) → path″ ≡ splice path (2 * w .points) (added spacing room w (Crossing.Leaves q b))
+      → path″ ≡ splice path′ (2 * (w .points + i)) (closing q b) → path″ ≡ splice path (2 * w .points) (added room w (Crossing.Leaves q n b))
   put-on path {path′} {path″} f p′ p″ =
       let new = between (w .position) q n i in
       let z : 2 * (w .points + i) ≡ 2 * w .points + length new = omega (arith, length-between (w .position) q n i) in
-      rw (fits f, ← isn, ← isi, p″, p′, z) (sym (splice-append path (2 * w .points) new (closing q b)))
+      rw (fits f, ← isi, p″, p′, z) (sym (splice-append path (2 * w .points) new (closing q b)))
 
 -- ---- ends 1 and 2
 
-pub walk-dull : (spacing : Float) (room : ℕ) (last : Bool) (w : Walk) (r : Walk) (c : Crossing) → c ≡ Crossing.Dull → r ≡ ended w 1 → r ≡ walked spacing room last w c
+pub walk-dull : (room : ℕ) (last : Bool) (w : Walk) (r : Walk) (c : Crossing) → c ≡ Crossing.Dull → r ≡ ended w 1 → r ≡ walked room last w c
 unfolding walked
-walk-dull spacing room last w r c e p = rw e p
+walk-dull room last w r c e p = rw e p
 
-pub walk-stuck : (spacing : Float) (room : ℕ) (last : Bool) (w : Walk) (r : Walk) (c : Crossing) → c ≡ Crossing.Stuck → r ≡ ended w 2 → r ≡ walked spacing room last w c
+pub walk-stuck : (room : ℕ) (last : Bool) (w : Walk) (r : Walk) (c : Crossing) → c ≡ Crossing.Stuck → r ≡ ended w 2 → r ≡ walked room last w c
 unfolding walked
-walk-stuck spacing room last w r c e p = rw e p
+walk-stuck room last w r c e p = rw e p
 
-pub put-dull : (spacing : Float) (room : ℕ) (w : Walk) (path : List Float) (c : Crossing) → c ≡ Crossing.Dull → path ≡ splice path (2 * w .points) (added spacing room w c)
-put-dull spacing room w path c e = rw e (sym (splice-nil path (2 * w .points)))
+pub put-dull : (room : ℕ) (w : Walk) (path : List Float) (c : Crossing) → c ≡ Crossing.Dull → path ≡ splice path (2 * w .points) (added room w c)
+put-dull room w path c e = rw e (sym (splice-nil path (2 * w .points)))
 
-pub put-stuck : (spacing : Float) (room : ℕ) (w : Walk) (path : List Float) (c : Crossing) → c ≡ Crossing.Stuck → path ≡ splice path (2 * w .points) (added spacing room w c)
-put-stuck spacing room w path c e = rw e (sym (splice-nil path (2 * w .points)))
+pub put-stuck : (room : ℕ) (w : Walk) (path : List Float) (c : Crossing) → c ≡ Crossing.Stuck → path ≡ splice path (2 * w .points) (added room w c)
+put-stuck room w path c e = rw e (sym (splice-nil path (2 * w .points)))

@@ -1,4 +1,4 @@
--- Where an answer points: its triangle is below the count and its edge below 3. Definitions, and the laws that the searches' answers are so. Assumes nothing.
+-- Where an answer points: its triangle is below the count and its edge below 3; and how far an exit is. Definitions, and the laws that the searches' answers are so. Assumes nothing.
 use mathlib.Core.Path.{_≡_, refl, subst}
 use mathlib.Core.Bool.{Bool, true, false, _&&_}
 use mathlib.Core.List.{List}
@@ -25,7 +25,7 @@ use Rattle.pde.specs.declared.Crossing.{Crossing}
 use Rattle.pde.specs.declared.Rule.{Rule}
 use Rattle.pde.specs.declared.Start.{Start}
 use Rattle.pde.specs.Start.{noEdge, orElse, contains, containedIn, triangleContaining, isInner, middle, innerEdge, innerEdgeOf, firstInner, leastVertex, has, centroid, centroidWith, firstWith, pickStart}
-use Rattle.pde.specs.Exit.{distance, orSide, isCut, offered, considered, exitEdge, namesBack, entryEdge, cutEdge, cutTriangle, cutMatch, nearest}
+use Rattle.pde.specs.Exit.{distance, orSide, isCut, offered, considered, nearestOf, exitEdge, namesBack, entryEdge, cutEdge, cutTriangle, cutMatch, nearest}
 use Rattle.pde.specs.Crossing.{gradientAt, magnitude, direction, valueIn, entering, beyond, left, crossing}
 
 -- ---- where an answer points
@@ -51,7 +51,7 @@ BeyondIn n (Beyond.Into t e) = (t < n) × (e < 3)
 abbrev pub CrossingIn : ℕ → Crossing → Type 0
 CrossingIn n Crossing.Dull = Unit
 CrossingIn n Crossing.Stuck = Unit
-CrossingIn n (Crossing.Leaves p b) = BeyondIn n b
+CrossingIn n (Crossing.Leaves p k b) = BeyondIn n b
 
 -- what a match on such an answer tells
 pub side-of : {n t e : ℕ} {s : Side} → SideIn n s → s ≡ Side.Of t e → (t < n) × (e < 3)
@@ -119,11 +119,36 @@ considered-in vs ts t pos dir entry e best h b =
     let hit = rayLineIntersection pos dir (vertex vs (corner ts t e)) (vertex vs (corner ts t (onward e))) in
     pick-in (λ (n : Nearest). ExitIn (n .exit)) (eqb e entry) best (offered pos e hit best) (λ _. b) (λ _. offered-in pos e hit best h b)
 
+nearest-in : (vs : List Float) (ts : List ℕ) (t : ℕ) (pos dir : Point) (entry k : ℕ) → k ≤ 3 → ExitIn (nearestOf vs ts t pos dir entry k .exit)
+unfolding nearestOf
+nearest-in vs ts t pos dir entry zero h = tt
+nearest-in vs ts t pos dir entry (suc e) h = considered-in vs ts t pos dir entry e _ (omega arith) (nearest-in vs ts t pos dir entry e (omega arith))
+
 pub exit-in : (vs : List Float) (ts : List ℕ) (t : ℕ) (pos dir : Point) (entry : ℕ) → ExitIn (exitEdge vs ts t pos dir entry)
-unfolding exitEdge
-exit-in vs ts t pos dir entry =
-    let each = considered-in vs ts t pos dir entry in
-    each 2 _ (omega arith) (each 1 _ (omega arith) (each 0 _ (omega arith) tt))
+exit-in vs ts t pos dir entry = nearest-in vs ts t pos dir entry 3 (omega arith)
+
+-- how far the nearest exit is
+abbrev FarFrom : Point → Exit → Float → Type 0
+FarFrom pos (Exit.Through e p) d = d ≡ distance pos p
+FarFrom pos Exit.Nothing d = Unit
+
+offered-far : (pos : Point) (e : ℕ) (hit : Hit) (best : Nearest) → FarFrom pos (best .exit) (best .far) → FarFrom pos (offered pos e hit best .exit) (offered pos e hit best .far)
+offered-far pos e (Hit.At p) best b =
+    let d = distance pos p in
+    pick-in (λ (n : Nearest). FarFrom pos (n .exit) (n .far)) (lt small d && lt d (best .far)) (nearest d (Exit.Through e p)) best (λ _. refl) (λ _. b)
+offered-far pos e Hit.Nothing best b = b
+
+nearest-far : (vs : List Float) (ts : List ℕ) (t : ℕ) (pos dir : Point) (entry k : ℕ) → FarFrom pos (nearestOf vs ts t pos dir entry k .exit) (nearestOf vs ts t pos dir entry k .far)
+unfolding nearestOf considered
+nearest-far vs ts t pos dir entry zero = tt
+nearest-far vs ts t pos dir entry (suc e) =
+    let best = nearestOf vs ts t pos dir entry e in
+    let hit = rayLineIntersection pos dir (vertex vs (corner ts t e)) (vertex vs (corner ts t (onward e))) in
+    let b : FarFrom pos (best .exit) (best .far) = nearest-far vs ts t pos dir entry e in
+    pick-in (λ (n : Nearest). FarFrom pos (n .exit) (n .far)) (eqb e entry) best (offered pos e hit best) (λ _. b) (λ _. offered-far pos e hit best b)
+
+pub exit-far : (vs : List Float) (ts : List ℕ) (t : ℕ) (pos dir : Point) (entry k : ℕ) {e : ℕ} {p : Point} → nearestOf vs ts t pos dir entry k .exit ≡ Exit.Through e p → nearestOf vs ts t pos dir entry k .far ≡ distance pos p
+exit-far vs ts t pos dir entry k h = subst (λ (x : Exit). FarFrom pos x (nearestOf vs ts t pos dir entry k .far)) h (nearest-far vs ts t pos dir entry k)
 
 -- ---- the edge beyond
 
@@ -158,19 +183,19 @@ unfolding entering
 entering-in n above vs ts us p (Side.Of t e) other h k = pick-in (BeyondIn n) (lt above (valueIn vs ts us t p)) Beyond.Above (Beyond.Into t e) (λ _. tt) (λ _. h)
 entering-in n above vs ts us p Side.Nothing other h k = k
 
-module _ {words : List ℕ} {m : Mesh} (linked : Linked words m) (above : Float) (vs us : List Float) where
-  beyond-in : (t e : ℕ) (p : Point) → t < m .t → e < 3 → BeyondIn (m .t) (beyond above vs (trianglesOf words m) (neighboursOf words m) (m .t) us t e p)
+module _ {words : List ℕ} {m : Mesh} (linked : Linked words m) (vs us : List Float) where
+  beyond-in : (above : Float) (t e : ℕ) (p : Point) → t < m .t → e < 3 → BeyondIn (m .t) (beyond above vs (trianglesOf words m) (neighboursOf words m) (m .t) us t e p)
   unfolding beyond
-  beyond-in t e p h k =
+  beyond-in above t e p h k =
       let ts = trianglesOf words m in
       let ns = neighboursOf words m in
       pick-in (BeyondIn (m .t)) (eqb (neighbour ns t e) noNeighbour) _ _
       (λ _. entering-in (m .t) above vs ts us p _ Beyond.Border (cut-in ts ns (m .t) t e) tt)
       (λ f. entering-in (m .t) above vs ts us p _ Beyond.Unnamed (entry-in ns (m .t) _ t (neighbour-below linked t e h k (eqb-false _ _ f))) tt)
 
-  left-in : (t : ℕ) (exit : Exit) → t < m .t → ExitIn exit → CrossingIn (m .t) (left above vs (trianglesOf words m) (neighboursOf words m) (m .t) us t exit)
-  left-in t (Exit.Through e p) h k = beyond-in t e p h k
-  left-in t Exit.Nothing h k = tt
+  left-in : (rule : Rule) (pos : Point) (t : ℕ) (exit : Exit) → t < m .t → ExitIn exit → CrossingIn (m .t) (left rule vs (trianglesOf words m) (neighboursOf words m) (m .t) us pos t exit)
+  left-in rule pos t (Exit.Through e p) h k = beyond-in (rule .above) t e p h k
+  left-in rule pos t Exit.Nothing h k = tt
 
 pub crossing-in : {words : List ℕ} {m : Mesh} (linked : Linked words m) (rule : Rule) (vs us gs : List Float) (step : Float) (pos : Point) (t entry : ℕ) → t < m .t
     → CrossingIn (m .t) (crossing rule vs (trianglesOf words m) (neighboursOf words m) (m .t) us gs step pos t entry)
@@ -179,5 +204,5 @@ crossing-in {words} {m} linked rule vs us gs step pos t entry h =
     let ts = trianglesOf words m in
     let mag = magnitude (gradientAt gs t) in
     let exit = exitEdge vs ts t pos (direction step (gradientAt gs t) mag) entry in
-    pick-in (CrossingIn (m .t)) (lt mag (rule .dull)) Crossing.Dull (left (rule .above) vs ts (neighboursOf words m) (m .t) us t exit)
-    (λ _. tt) (λ _. left-in linked (rule .above) vs us t exit h (exit-in vs ts t pos _ entry))
+    pick-in (CrossingIn (m .t)) (lt mag (rule .dull)) Crossing.Dull (left rule vs ts (neighboursOf words m) (m .t) us pos t exit)
+    (λ _. tt) (λ _. left-in linked vs us rule pos t exit h (exit-in vs ts t pos _ entry))

@@ -6,7 +6,7 @@ use lib.ListN.{getD}
 use lib.Ieee.{Float, nan, binary64, ofBits, neg, lt}
 use Rattle.binary64.specs.Arith.{_⊕_, _⊗_, _⊘_}
 use Rattle.binary64.specs.Constants.{two}
-use Rattle.binary64.specs.Number.{pick}
+use Rattle.binary64.specs.Number.{pick, ceilCount}
 use Rattle.binary64.specs.Root.{root}
 use Rattle.plane.specs.declared.Point.{Point}
 use Rattle.plane.specs.Plane.{point, interpolated}
@@ -16,7 +16,7 @@ use Rattle.pde.specs.declared.Side.{Side}
 use Rattle.pde.specs.declared.Beyond.{Beyond}
 use Rattle.pde.specs.declared.Crossing.{Crossing}
 use Rattle.pde.specs.declared.Rule.{Rule}
-use Rattle.pde.specs.Exit.{exitEdge, entryEdge, cutMatch}
+use Rattle.pde.specs.Exit.{distance, exitEdge, entryEdge, cutMatch}
 
 -- PI (document 01, Stand-ins)
 abbrev pub pi : Float
@@ -56,13 +56,17 @@ beyond above vs ts ns count us t e p =
     let next = neighbour ns t e in
     pick (eqb next noNeighbour) (entering above vs ts us p (cutMatch ts ns count t e) Beyond.Border) (entering above vs ts us p (entryEdge ns next t) Beyond.Unnamed)
 
-abbrev pub left : Float → List Float → List ℕ → List ℕ → ℕ → List Float → ℕ → Exit → Crossing
-left above vs ts ns count us t (Exit.Through e p) = Crossing.Leaves p (beyond above vs ts ns count us t e p)
-left above vs ts ns count us t Exit.Nothing = Crossing.Stuck
+-- in how many pieces the way from p to q is laid, each no longer than the spacing
+unfoldable pub pieces : Float → Point → Point → ℕ
+pieces spacing p q = ceilCount (distance p q ⊘ spacing)
+
+abbrev pub left : Rule → List Float → List ℕ → List ℕ → ℕ → List Float → Point → ℕ → Exit → Crossing
+left rule vs ts ns count us pos t (Exit.Through e p) = Crossing.Leaves p (pieces (rule .spacing) pos p) (beyond (rule .above) vs ts ns count us t e p)
+left rule vs ts ns count us pos t Exit.Nothing = Crossing.Stuck
 
 -- what crossing triangle t from pos, entered by an edge, comes to
 unfoldable pub crossing : Rule → List Float → List ℕ → List ℕ → ℕ → List Float → List Float → Float → Point → ℕ → ℕ → Crossing
 crossing rule vs ts ns count us gs step pos t entry =
     let g = gradientAt gs t in
     let mag = magnitude g in
-    pick (lt mag (rule .dull)) Crossing.Dull (left (rule .above) vs ts ns count us t (exitEdge vs ts t pos (direction step g mag) entry))
+    pick (lt mag (rule .dull)) Crossing.Dull (left rule vs ts ns count us pos t (exitEdge vs ts t pos (direction step g mag) entry))

@@ -1,5 +1,5 @@
 -- Where a ray leaves a triangle, and which edge is entered beyond (mesh/pde.rs, `find_exit_edge`, `entry_edge_of`, `find_cut_edge_match`). Definitions only. Assumes nothing.
-use Prim.Native.Nat.{ℕ, suc}
+use Prim.Native.Nat.{ℕ, zero, suc}
 use mathlib.Core.Bool.{Bool, false, _&&_}
 use mathlib.Core.List.{List}
 use lib.Dec.{eqb}
@@ -39,12 +39,13 @@ unfoldable pub considered : List Float → List ℕ → ℕ → Point → Point 
 considered vs ts t pos dir entry e best =
     pick (eqb e entry) best (offered pos e (rayLineIntersection pos dir (vertex vs (corner ts t e)) (vertex vs (corner ts t (onward e)))) best)
 
--- the three edges in order
-unfoldable pub exitEdge : List Float → List ℕ → ℕ → Point → Point → ℕ → Exit
-exitEdge vs ts t pos dir entry =
-    let best0 = considered vs ts t pos dir entry 0 (nearest (inf false) Exit.Nothing) in
-    let best1 = considered vs ts t pos dir entry 1 best0 in
-    considered vs ts t pos dir entry 2 best1 .exit
+-- the first k edges in order
+unfoldable pub nearestOf : List Float → List ℕ → ℕ → Point → Point → ℕ → ℕ → Nearest
+nearestOf vs ts t pos dir entry zero = nearest (inf false) Exit.Nothing
+nearestOf vs ts t pos dir entry (suc e) = considered vs ts t pos dir entry e (nearestOf vs ts t pos dir entry e)
+
+abbrev pub exitEdge : List Float → List ℕ → ℕ → Point → Point → ℕ → Exit
+exitEdge vs ts t pos dir entry = nearestOf vs ts t pos dir entry 3 .exit
 
 -- ---- the edge beyond
 

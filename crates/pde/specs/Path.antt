@@ -7,7 +7,7 @@ use lib.IntN.{pos}
 use lib.Ieee.{Float, binary64, ofInt}
 use Rattle.binary64.specs.Arith.{_⊕_, _⊖_, _⊗_, _⊘_}
 use Rattle.binary64.specs.Constants.{plusZero}
-use Rattle.binary64.specs.Number.{pick, ceilCount}
+use Rattle.binary64.specs.Number.{pick}
 use Rattle.plane.specs.declared.Point.{Point}
 use Rattle.plane.specs.Plane.{point}
 use Rattle.pde.specs.declared.Beyond.{Beyond}
@@ -16,10 +16,6 @@ use Rattle.pde.specs.declared.Walk.{Walk}
 use Rattle.pde.specs.Exit.{distance}
 
 -- ---- the points of a crossing
-
--- in how many pieces the stretch from p to q is laid, each no longer than the spacing
-unfoldable pub pieces : Float → Point → Point → ℕ
-pieces spacing p q = ceilCount (distance p q ⊘ spacing)
 
 -- the point i of n parts from p on the way by (dx, dy)
 unfoldable pub partWay : Point → Float → Float → ℕ → ℕ → Point
@@ -66,25 +62,23 @@ gone last w q Beyond.Above k = withPoints w k 5
 gone last w q (Beyond.Into t e) k = record { position = q; triangle = t; edge = e; points = w .points + k; end = pick last 6 0 }
 
 -- how many points a crossing adds
-abbrev pub adds : Float → Walk → Crossing → ℕ
-adds spacing w Crossing.Dull = 0
-adds spacing w Crossing.Stuck = 0
-adds spacing w (Crossing.Leaves q b) = pieces spacing (w .position) q - 1 + closes b
+abbrev pub adds : Crossing → ℕ
+adds Crossing.Dull = 0
+adds Crossing.Stuck = 0
+adds (Crossing.Leaves q n b) = n - 1 + closes b
 
 -- its points, where they fit the room
-abbrev pub added : Float → ℕ → Walk → Crossing → List Float
-added spacing room w Crossing.Dull = []
-added spacing room w Crossing.Stuck = []
-added spacing room w (Crossing.Leaves q b) =
-    let n = pieces spacing (w .position) q in
-    pick (ltb room (w .points + (n - 1 + closes b))) [] (between (w .position) q n (n - 1) ++ closing q b)
+abbrev pub added : ℕ → Walk → Crossing → List Float
+added room w Crossing.Dull = []
+added room w Crossing.Stuck = []
+added room w (Crossing.Leaves q n b) = pick (ltb room (w .points + (n - 1 + closes b))) [] (between (w .position) q n (n - 1) ++ closing q b)
 
 -- Ends 1 and 2; 7 where the points would bring the path above the room, with nothing else changed; else on.
-unfoldable pub walked : Float → ℕ → Bool → Walk → Crossing → Walk
-walked spacing room last w Crossing.Dull = ended w 1
-walked spacing room last w Crossing.Stuck = ended w 2
-walked spacing room last w (Crossing.Leaves q b) =
-    let k = pieces spacing (w .position) q - 1 + closes b in
+unfoldable pub walked : ℕ → Bool → Walk → Crossing → Walk
+walked room last w Crossing.Dull = ended w 1
+walked room last w Crossing.Stuck = ended w 2
+walked room last w (Crossing.Leaves q n b) =
+    let k = n - 1 + closes b in
     pick (ltb room (w .points + k)) (ended w 7) (gone last w q b k)
 
 -- ---- length

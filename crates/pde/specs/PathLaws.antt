@@ -13,7 +13,7 @@ use Rattle.plane.specs.declared.Point.{Point}
 use Rattle.pde.specs.declared.Beyond.{Beyond}
 use Rattle.pde.specs.declared.Crossing.{Crossing}
 use Rattle.pde.specs.declared.Walk.{Walk}
-use Rattle.pde.specs.Path.{pieces, along, between, closing, closes, ended, gone, added, walked}
+use Rattle.pde.specs.Path.{along, between, closing, closes, ended, gone, added, walked}
 use Rattle.pde.specs.Bounds.{BeyondIn, CrossingIn}
 
 -- ---- how many
@@ -42,38 +42,43 @@ closes-most Beyond.Unnamed = omega arith
 closes-most Beyond.Above = omega arith
 closes-most (Beyond.Into t e) = omega arith
 
-gone-points : (last : Bool) (w : Walk) (q : Point) (b : Beyond) (k : ℕ) → gone last w q b k .points ≡ w .points + k
+pub gone-points : (last : Bool) (w : Walk) (q : Point) (b : Beyond) (k : ℕ) → gone last w q b k .points ≡ w .points + k
 gone-points last w q Beyond.Border k = refl
 gone-points last w q Beyond.Unnamed k = refl
 gone-points last w q Beyond.Above k = refl
 gone-points last w q (Beyond.Into t e) k = refl
 
 -- the points after a crossing are those before it and those that it put down, and the room holds them
-pub record Holds (room : ℕ) (w r : Walk) (new : List Float) : Type 0 where
-  pub more : 2 * r .points ≡ 2 * w .points + length new
-  pub most : r .points ≤ room
-
-pub walked-holds : (spacing : Float) (room : ℕ) (last : Bool) (w : Walk) (c : Crossing) → w .points ≤ room → Holds room w (walked spacing room last w c) (added spacing room w c)
+pub walked-more : (room : ℕ) (last : Bool) (w : Walk) (c : Crossing) → 2 * w .points + length (added room w c) ≡ 2 * walked room last w c .points
 unfolding walked
-walked-holds spacing room last w Crossing.Dull h = record { more = omega arith; most = h }
-walked-holds spacing room last w Crossing.Stuck h = record { more = omega arith; most = h }
-walked-holds spacing room last w (Crossing.Leaves q b) h = by (ltb room (w .points + k)) refl
+walked-more room last w Crossing.Dull = omega arith
+walked-more room last w Crossing.Stuck = omega arith
+walked-more room last w (Crossing.Leaves q n b) = by (ltb room (w .points + k))
   where
-    n : ℕ
-    n = pieces spacing (w .position) q
-
     k : ℕ
     k = n - 1 + closes b
 
     new : List Float
     new = between (w .position) q n (n - 1) ++ closing q b
 
-    by : (t : Bool) → ltb room (w .points + k) ≡ t → Holds room w (pick t (ended w 7) (gone last w q b k)) (pick t [] new)
-    by true e = record { more = omega arith; most = h }
-    by false e =
+    by : (t : Bool) → 2 * w .points + length (pick t [] new) ≡ 2 * (pick t (ended w 7) (gone last w q b k) .points)
+    by true = omega arith
+    by false =
         let l : length new ≡ 2 * k = simp (length-append, length-between, length-closing) (omega arith) in
-        let p = gone-points last w q b k in
-        record { more = omega arith; most = omega (arith, ltb-false room (w .points + k) e) }
+        omega (arith, gone-points last w q b k)
+
+pub walked-most : (room : ℕ) (last : Bool) (w : Walk) (c : Crossing) → w .points ≤ room → walked room last w c .points ≤ room
+unfolding walked
+walked-most room last w Crossing.Dull h = h
+walked-most room last w Crossing.Stuck h = h
+walked-most room last w (Crossing.Leaves q n b) h = by (ltb room (w .points + k)) refl
+  where
+    k : ℕ
+    k = n - 1 + closes b
+
+    by : (t : Bool) → ltb room (w .points + k) ≡ t → pick t (ended w 7) (gone last w q b k) .points ≤ room
+    by true e = h
+    by false e = omega (arith, gone-points last w q b k, ltb-false room (w .points + k) e)
 
 -- ---- where the path stands
 
@@ -82,18 +87,18 @@ pub record Stands (n : ℕ) (w : Walk) : Type 0 where
   pub triangle-below : w .triangle < n
   pub edge-most : w .edge ≤ 3
 
-pub walked-stands : (spacing : Float) (room : ℕ) (last : Bool) (n : ℕ) (w : Walk) (c : Crossing) → CrossingIn n c → Stands n w → Stands n (walked spacing room last w c)
+pub walked-stands : (room : ℕ) (last : Bool) (t : ℕ) (w : Walk) (c : Crossing) → CrossingIn t c → Stands t w → Stands t (walked room last w c)
 unfolding walked
-walked-stands spacing room last n w Crossing.Dull i s = record { triangle-below = s .triangle-below; edge-most = s .edge-most }
-walked-stands spacing room last n w Crossing.Stuck i s = record { triangle-below = s .triangle-below; edge-most = s .edge-most }
-walked-stands spacing room last n w (Crossing.Leaves q b) i s = by (ltb room (w .points + k)) b i
+walked-stands room last t w Crossing.Dull i s = record { triangle-below = s .triangle-below; edge-most = s .edge-most }
+walked-stands room last t w Crossing.Stuck i s = record { triangle-below = s .triangle-below; edge-most = s .edge-most }
+walked-stands room last t w (Crossing.Leaves q n b) i s = by (ltb room (w .points + k)) b i
   where
     k : ℕ
-    k = pieces spacing (w .position) q - 1 + closes b
+    k = n - 1 + closes b
 
-    by : (t : Bool) (b : Beyond) → BeyondIn n b → Stands n (pick t (ended w 7) (gone last w q b k))
+    by : (full : Bool) (b : Beyond) → BeyondIn t b → Stands t (pick full (ended w 7) (gone last w q b k))
     by true b i = record { triangle-below = s .triangle-below; edge-most = s .edge-most }
     by false Beyond.Border i = record { triangle-below = s .triangle-below; edge-most = s .edge-most }
     by false Beyond.Unnamed i = record { triangle-below = s .triangle-below; edge-most = s .edge-most }
     by false Beyond.Above i = record { triangle-below = s .triangle-below; edge-most = s .edge-most }
-    by false (Beyond.Into t e) i = record { triangle-below = i .0; edge-most = omega (arith, i .1) }
+    by false (Beyond.Into t′ e) i = record { triangle-below = i .0; edge-most = omega (arith, i .1) }

@@ -135,8 +135,11 @@ pub fn crossing(
         return Crossing::Dull;
     }
     let dir = direction(step, g, mag);
-    let Exit::Through(e, p) = edges::find_exit_edge(floats, words, m, t, pos, dir, entry) else {
+    let best = edges::find_exit_edge(floats, words, m, t, pos, dir, entry);
+    let exit = best.exit;
+    let Exit::Through(e, p) = exit else {
         return Crossing::Stuck;
     };
-    Crossing::Leaves(p, beyond(floats, words, m, u, rule.above, t, e, p))
+    let n = binary64::ceil_count(best.far / rule.spacing);
+    Crossing::Leaves(p, n, beyond(floats, words, m, u, rule.above, t, e, p))
 }

@@ -64,7 +64,7 @@ fn considered(
     offered(pos, e, hit, best)
 }
 
-// The nearest edge that the ray from `pos` along `dir` meets in triangle t, with the point.
+// The nearest edge that the ray from `pos` along `dir` meets in triangle t, with the point and how far it is.
 pub fn find_exit_edge(
     floats: &[f64],
     words: &[u32],
@@ -73,19 +73,18 @@ pub fn find_exit_edge(
     pos: Point,
     dir: Point,
     entry: usize,
-) -> Exit
+) -> Nearest
     requires { ⌜ (Meshed (now floats) (now words) m) × (t < m .t) ⌝ }
-    ensures { λ r. ⌜ r ≡ Exits.exitEdge (verticesOf (now (floats .entry)) m) (trianglesOf (now (words .entry)) m) t pos dir entry ⌝ }
+    ensures { λ r. ⌜ r ≡ Exits.nearestOf (verticesOf (now (floats .entry)) m) (trianglesOf (now (words .entry)) m) t pos dir entry 3 ⌝ }
 {
-    let none = Nearest {
+    let mut best = Nearest {
         far: 1.0 / 0.0,
         exit: Exit::Nothing,
     };
-    let best0 = considered(floats, words, m, t, pos, dir, entry, 0, none);
-    let best1 = considered(floats, words, m, t, pos, dir, entry, 1, best0);
-    let best2 = considered(floats, words, m, t, pos, dir, entry, 2, best1);
-    let exit = best2.exit;
-    exit
+    for e in 0..3usize {
+        best = considered(floats, words, m, t, pos, dir, entry, e, best);
+    }
+    best
 }
 
 // The first edge of triangle t whose neighbour is `prev`.

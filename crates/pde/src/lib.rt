@@ -39,11 +39,11 @@ pub enum Beyond {
     Into(usize, usize),
 }
 
-// What a crossing comes to before the room is looked at: the gradient is too small (end 1), there is no exit (end 2), or an exit's point and what lies beyond it.
+// What a crossing comes to before the room is looked at: the gradient is too small (end 1), there is no exit (end 2), or an exit's point, in how many pieces the way to it is laid, and what lies beyond it.
 pub enum Crossing {
     Dull,
     Stuck,
-    Leaves(Point, Beyond),
+    Leaves(Point, usize, Beyond),
 }
 
 // The thresholds: the least magnitude of a gradient, the value at which the path ends, and the longest piece.

@@ -14,13 +14,6 @@ ghost use Rattle.pde.specs.Work.{Roomy};
 
 // ---- the points of a crossing
 
-// In how many pieces the stretch from p to q is laid, each no longer than the spacing.
-fn pieces(spacing: f64, p: Point, q: Point) -> usize
-    ensures { λ r. ⌜ r ≡ Paths.pieces spacing p q ⌝ }
-{
-    binary64::ceil_count(edges::distance(p, q) / spacing)
-}
-
 // The first k points between p and q, of n parts, written from `at` on.
 pub fn put_points(path: &mut [f64], at: usize, p: Point, q: Point, n: usize, k: usize)
     requires { ⌜ at + 2 * k ≤ Lists.length (now path) ⌝ }
@@ -139,14 +132,12 @@ fn gone(last: bool, w: Walk, q: Point, b: Beyond, k: usize) -> Walk
     }
 }
 
-// Where the path stands behind the exit at q: the room decides.
-fn left_at(spacing: f64, room: usize, last: bool, w: Walk, q: Point, b: Beyond) -> Walk
+// Where the path stands behind the exit at q, in n pieces: the room decides.
+fn left_at(room: usize, last: bool, w: Walk, q: Point, n: usize, b: Beyond) -> Walk
     requires { ⌜ w .points ≤ room ⌝ }
-    ensures { λ r. ⌜ r ≡ Paths.walked spacing room last w (Crossing.Leaves q b) ⌝ }
+    ensures { λ r. ⌜ r ≡ Paths.walked room last w (Crossing.Leaves q n b) ⌝ }
 {
-    let from = w.position;
     let points = w.points;
-    let n = pieces(spacing, from, q);
     let k = inside(n) + closes(b);
     if room - points < k {
         return ended(w, 7);
@@ -155,25 +146,24 @@ fn left_at(spacing: f64, room: usize, last: bool, w: Walk, q: Point, b: Beyond) 
 }
 
 // Where the path stands after a crossing: ends 1 and 2, or out of the triangle.
-pub fn after(spacing: f64, room: usize, last: bool, w: Walk, c: Crossing) -> Walk
+pub fn after(room: usize, last: bool, w: Walk, c: Crossing) -> Walk
     requires { ⌜ w .points ≤ room ⌝ }
-    ensures { λ r. ⌜ r ≡ Paths.walked spacing room last w c ⌝ }
+    ensures { λ r. ⌜ r ≡ Paths.walked room last w c ⌝ }
 {
     match c {
         Crossing::Dull => ended(w, 1),
         Crossing::Stuck => ended(w, 2),
-        Crossing::Leaves(q, b) => left_at(spacing, room, last, w, q, b),
+        Crossing::Leaves(q, n, b) => left_at(room, last, w, q, n, b),
     }
 }
 
-// The points up to the exit at q, where the room holds them.
-fn put_leaving(path: &mut [f64], spacing: f64, room: usize, w: Walk, q: Point, b: Beyond)
+// The points up to the exit at q, in n pieces, where the room holds them.
+fn put_leaving(path: &mut [f64], room: usize, w: Walk, q: Point, n: usize, b: Beyond)
     requires { ⌜ Roomy (now path) room w ⌝ }
-    ensures { λ _. ⌜ now (path .exit) ≡ splice (now (path .entry)) (2 * w .points) (Paths.added spacing room w (Crossing.Leaves q b)) ⌝ }
+    ensures { λ _. ⌜ now (path .exit) ≡ splice (now (path .entry)) (2 * w .points) (Paths.added room w (Crossing.Leaves q n b)) ⌝ }
 {
     let from = w.position;
     let points = w.points;
-    let n = pieces(spacing, from, q);
     let between = inside(n);
     let k = between + closes(b);
     if room - points < k {
@@ -184,15 +174,15 @@ fn put_leaving(path: &mut [f64], spacing: f64, room: usize, w: Walk, q: Point, b
 }
 
 // The points of a crossing, behind those of the path.
-pub fn put_added(path: &mut [f64], spacing: f64, room: usize, w: Walk, c: Crossing)
+pub fn put_added(path: &mut [f64], room: usize, w: Walk, c: Crossing)
     requires { ⌜ Roomy (now path) room w ⌝ }
-    ensures { λ _. ⌜ now (path .exit) ≡ splice (now (path .entry)) (2 * w .points) (Paths.added spacing room w c) ⌝ }
+    ensures { λ _. ⌜ now (path .exit) ≡ splice (now (path .entry)) (2 * w .points) (Paths.added room w c) ⌝ }
 {
     match c {
         Crossing::Dull => {}
         Crossing::Stuck => {}
-        Crossing::Leaves(q, b) => {
-            put_leaving(path, spacing, room, w, q, b);
+        Crossing::Leaves(q, n, b) => {
+            put_leaving(path, room, w, q, n, b);
         }
     }
 }

@@ -47,7 +47,7 @@ pub gave-first : (plan : Plan) (s : Stand) (g : Gives) (m p p′ : List Float) (
 gave-first plan s g m p p′ q e h = rw e (refl, h)
 
 pub gave-crossed : (plan : Plan) (s : Stand) (g : Gives) (m p p′ : List Float) (x : Crossing) → g ≡ Gives.Crossed x
-    → p′ ≡ splice p (2 * s .walk .points) (added (rule .spacing) (plan .room) (s .walk) x) → Delivered plan s g m p m p′
+    → p′ ≡ splice p (2 * s .walk .points) (added (plan .room) (s .walk) x) → Delivered plan s g m p m p′
 gave-crossed plan s g m p p′ x e h = rw e (refl, h)
 
 -- ---- a pass on the whole buffers

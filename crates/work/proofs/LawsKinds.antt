@@ -182,11 +182,11 @@ unfolding verticesOf trianglesOf neighboursOf fieldOf gradientsOf
 crossing-is plan words f s m u at r em eu ea e = rw (em, eu, ea) at e
 
 pub cross-leads : (plan : Plan) (words : List ℕ) (f : List Float) (s : Stand) (c : Crossing) (last : Bool) (w : Walk) (s′ : Stand) → c ≡ crossingOf plan words f s
-    → last ≡ eqb (s .crossings + 1) (20 * plan .t) → w ≡ walked (rule .spacing) (plan .room) last (s .walk) c → s′ ≡ walkedStand s w (s .crossings + 1)
+    → last ≡ eqb (s .crossings + 1) (20 * plan .t) → w ≡ walked (plan .room) last (s .walk) c → s′ ≡ walkedStand s w (s .crossings + 1)
     → Leads (crossStep plan words f s) (record { stand = s′; gives = Gives.Crossed c }) f
 unfolding crossStep
 cross-leads plan words f s c last w s′ ec el ew es = record {
-  stand = es ∙ ap (λ (x : Walk). walkedStand s x (s .crossings + 1)) (ew ∙ ap₂ (λ b x. walked (rule .spacing) (plan .room) b (s .walk) x) el ec);
+  stand = es ∙ ap (λ (x : Walk). walkedStand s x (s .crossings + 1)) (ew ∙ ap₂ (λ b x. walked (plan .room) b (s .walk) x) el ec);
   gives = ap Gives.Crossed ec;
   front = refl;
 }

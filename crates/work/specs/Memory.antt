@@ -117,7 +117,7 @@ module _ (plan : Plan) (words : List ℕ) (f : List Float) (s : Stand) where
 
   unfoldable pub crossStep : Stepped
   crossStep =
-      stepped f (walkedStand s (walked (rule .spacing) (plan .room) (eqb (s .crossings + 1) (factor * t)) (s .walk) crossingOf) (s .crossings + 1)) (Gives.Crossed crossingOf)
+      stepped f (walkedStand s (walked (plan .room) (eqb (s .crossings + 1) (factor * t)) (s .walk) crossingOf) (s .crossings + 1)) (Gives.Crossed crossingOf)
 
   abbrev pub stepBy : Next → Stepped
   stepBy over = stepped f s Gives.Nothing
@@ -155,7 +155,7 @@ abbrev pub pathGiven : Plan → Stand → Gives → List Float → List Float
 pathGiven plan s Gives.Nothing p = p
 pathGiven plan s (Gives.Norm v) p = p
 pathGiven plan s (Gives.First q) p = splice p 0 (q .x ∷ q .y ∷ [])
-pathGiven plan s (Gives.Crossed x) p = splice p (2 * s .walk .points) (added (rule .spacing) (plan .room) (s .walk) x)
+pathGiven plan s (Gives.Crossed x) p = splice p (2 * s .walk .points) (added (plan .room) (s .walk) x)
 
 -- the part of the floats that a pass works on
 abbrev pub frontOf : Plan → List Float → List Float

@@ -19,7 +19,7 @@ use Rattle.conjugate.specs.Solver.{Turn, halted, reached, moved}
 use Rattle.pde.specs.declared.Start.{Start}
 use Rattle.pde.specs.declared.Crossing.{Crossing}
 use Rattle.pde.specs.Path.{walked}
-use Rattle.pde.specs.PathLaws.{walked-holds, walked-stands}
+use Rattle.pde.specs.PathLaws.{walked-most, walked-stands}
 use Rattle.pde.specs.Bounds.{StartIn, CrossingIn, containing-in, pick-start-in, crossing-in}
 use Rattle.model.specs.Space.{factor}
 use Rattle.model.specs.Run.{rule, nextBy}
@@ -123,19 +123,19 @@ begin-standing plan words f s r st = start-standing plan words f s (plan .start)
 
 module _ (plan : Plan) (s : Stand) (x : Crossing) where
   -- a crossing that has no end is not the last
-  on-left : (b : Bool) → eqb (s .crossings + 1) (factor * plan .t) ≡ b → s .crossings < factor * plan .t → walked (rule .spacing) (plan .room) b (s .walk) x .end ≡ 0 → s .crossings + 1 < factor * plan .t
-  on-left true e h k = absurd (walked-last (rule .spacing) (plan .room) (s .walk) x k)
+  on-left : (b : Bool) → eqb (s .crossings + 1) (factor * plan .t) ≡ b → s .crossings < factor * plan .t → walked (plan .room) b (s .walk) x .end ≡ 0 → s .crossings + 1 < factor * plan .t
+  on-left true e h k = absurd (walked-last (plan .room) (s .walk) x k)
   on-left false e h k = let n : s .crossings + 1 ≡ factor * plan .t → ⊥ = eqb-false _ _ e in omega arith
 
   on-standing : (b : Bool) → eqb (s .crossings + 1) (factor * plan .t) ≡ b → Standing plan s → s .walk .end ≡ 0 → (s .walk .points ≡ 0 → ⊥) → CrossingIn (plan .t) x
-      → Standing plan (walkedStand s (walked (rule .spacing) (plan .room) b (s .walk) x) (s .crossings + 1))
+      → Standing plan (walkedStand s (walked (plan .room) b (s .walk) x) (s .crossings + 1))
   on-standing b eb st e n c =
       let z : 0 < s .walk .points = omega arith in
-      let w = walked-stands (rule .spacing) (plan .room) b (plan .t) (s .walk) x c (record { triangle-below = st .triangle-in z; edge-most = st .edge-in }) in
+      let w = walked-stands (plan .room) b (plan .t) (s .walk) x c (record { triangle-below = st .triangle-in z; edge-most = st .edge-in }) in
       record {
         norms-least = st .norms-least;
         norms-most = st .norms-most;
-        points-most = walked-holds (rule .spacing) (plan .room) b (s .walk) x (st .points-most) .most;
+        points-most = walked-most (plan .room) b (s .walk) x (st .points-most);
         triangle-in = λ _. w .triangle-below;
         edge-in = w .edge-most;
         crossings-left = λ h _. on-left b eb (st .crossings-left e z) h;

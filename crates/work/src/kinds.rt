@@ -208,7 +208,7 @@ fn cross_step(front: &[f64], words: &[u32], plan: Plan, stand: Stand) -> Step
     let made = stand.crossings + 1;
     let last = is_last(made, plan.t);
     let walk = stand.walk;
-    let next = pde::path::after(Run::SPACING, plan.room, last, walk, c);
+    let next = pde::path::after(plan.room, last, walk, c);
     let s = walked_stand(stand, next, made);
     Step {
         stand: s,

@@ -1,7 +1,6 @@
 // One pass on the lent buffers, and passes in a row.
 use crate::Gives;
 use crate::Plan;
-use crate::Run;
 use crate::Stand;
 use plane::Point;
 ghost use mathlib.Core.Path.{_≡_};
@@ -38,7 +37,7 @@ fn deliver(floats: &mut [f64], path: &mut [f64], plan: Plan, stand: Stand, gives
         }
         Gives::Crossed(c) => {
             let walk = stand.walk;
-            pde::path::put_added(path, Run::SPACING, plan.room, walk, c);
+            pde::path::put_added(path, plan.room, walk, c);
         }
     }
 }

@@ -34,11 +34,11 @@ left-at-requires c κs = search needs
 
 -- src/path.rt:158:1
 returns : tie.Need-returns
-returns c = walk-dull _ _ _ _ _ _ (c .before .enum-told .given .1) (c .ended .ensures)
+returns c = walk-dull _ _ _ _ _ (c .before .enum-told .given .1) (c .ended .ensures)
 
 -- src/path.rt:158:1
 returns-2 : tie.Need-returns-2
-returns-2 c = walk-stuck _ _ _ _ _ _ (c .before .enum-told2 .given .1) (c .ended2 .ensures)
+returns-2 c = walk-stuck _ _ _ _ _ (c .before .enum-told2 .given .1) (c .ended2 .ensures)
 
 -- src/path.rt:158:1
 returns-3 : tie.Need-returns-3

@@ -11,49 +11,35 @@ use Rattle.pde.proofs.path.closes.Reads as closes-reads
 use Rattle.pde.proofs.path.ended.Reads as ended-reads
 use Rattle.pde.proofs.path.gone.Reads as gone-reads
 use Rattle.pde.proofs.path.inside.Reads as inside-reads
-use Rattle.pde.proofs.path.pieces.Reads as pieces-reads
 
--- src/path.rt:149:9
-pieces-requires : tie.Need-pieces-requires
-pieces-requires c κs = search needs
-
--- src/path.rt:150:13
 inside-requires : tie.Need-inside-requires
 inside-requires c κs = search needs
 
--- src/path.rt:150:25
 closes-requires : tie.Need-closes-requires
 closes-requires c κs = search needs
 
--- src/path.rt:150:13
 add-k : tie.Need-add-k
-add-k c = record { fits = omega (arith, closes-most (c .before .before .before .before .args .b), c .closes .ensures, c .before .inside .ensures, c .before .before .pieces .ok) }
+add-k c = record { fits = omega (arith, closes-most (c .before .before .args .b), c .closes .ensures, c .before .inside .ensures, c .before .before .fits .n) }
 
--- src/path.rt:151:8
 sub-if1 : tie.Need-sub-if1
 sub-if1 c = search needs
 
--- src/path.rt:152:9
 ended-requires : tie.Need-ended-requires
 ended-requires c κs = search needs
 
--- src/path.rt:152:9
 returns : tie.Need-returns
-returns c = left-full _ _ _ _ _ (c .before .before .before .before .pieces .ensures) (c .before .before .before .inside .ensures) (c .before .before .closes .ensures) (c .before .before .before .before .before .before .pre) _ (c .before .if1 .taken) (c .ended .ensures)
+returns c = left-full _ _ _ _ _ (c .before .before .before .inside .ensures) (c .before .before .closes .ensures) (c .before .before .before .before .pre) _ (c .before .if1 .taken) (c .ended .ensures)
 
--- src/path.rt:154:5
 gone-requires : tie.Need-gone-requires
 gone-requires c κs = search needs
 
--- src/path.rt:143:1
 returns-2 : tie.Need-returns-2
-returns-2 c = left-on _ _ _ _ _ (c .before .before .before .before .pieces .ensures) (c .before .before .before .inside .ensures) (c .before .before .closes .ensures) (c .before .before .before .before .before .before .pre) _ (c .before .if1 .left) (c .gone .ensures)
+returns-2 c = left-on _ _ _ _ _ (c .before .before .before .inside .ensures) (c .before .before .closes .ensures) (c .before .before .before .before .pre) _ (c .before .if1 .left) (c .gone .ensures)
 
 pub left-at-spec : {M : Type 1} → statement M
 left-at-spec =
     tie.close
     (tie.spec
-    pieces-requires
     inside-requires
     closes-requires
     add-k

@@ -23,11 +23,11 @@ put-leaving-requires c κs = search needs
 
 -- src/path.rt:187:1
 returns : tie.Need-returns
-returns c = put-dull _ _ _ _ _ (c .enum-told .given .1)
+returns c = put-dull _ _ _ _ (c .enum-told .given .1)
 
 -- src/path.rt:187:1
 returns-2 : tie.Need-returns-2
-returns-2 c = put-stuck _ _ _ _ _ (c .enum-told2 .given .1)
+returns-2 c = put-stuck _ _ _ _ (c .enum-told2 .given .1)
 
 -- src/path.rt:187:1
 same-length : tie.Need-same-length

@@ -9,71 +9,53 @@ use Rattle.pde.proofs.path.put_leaving.Reads as reads
 use Rattle.pde.proofs.path.put_leaving.Lts as lts
 use Rattle.pde.proofs.path.closes.Reads as closes-reads
 use Rattle.pde.proofs.path.inside.Reads as inside-reads
-use Rattle.pde.proofs.path.pieces.Reads as pieces-reads
 use Rattle.pde.proofs.path.put_closing.Reads as put-closing-reads
 use Rattle.pde.proofs.path.put_points.Reads as put-points-reads
 
--- src/path.rt:176:9
-pieces-requires : tie.Need-pieces-requires
-pieces-requires c κs = search needs
-
--- src/path.rt:177:9
 inside-requires : tie.Need-inside-requires
 inside-requires c κs = search needs
 
--- src/path.rt:178:23
 closes-requires : tie.Need-closes-requires
 closes-requires c κs = search needs
 
--- src/path.rt:178:13
 add-k : tie.Need-add-k
-add-k c = record { fits = omega (arith, closes-most (c .before .before .before .before .before .args .b), c .closes .ensures, c .before .inside .ensures, c .before .before .pieces .ok) }
+add-k c = record { fits = omega (arith, closes-most (c .before .before .before .before .args .b), c .closes .ensures, c .before .inside .ensures, c .before .before .before .before .fits .n) }
 
--- src/path.rt:179:8
 sub-if1 : tie.Need-sub-if1
 sub-if1 c = search needs
 
--- src/path.rt:180:9
 returns : tie.Need-returns
 returns c =
-    let a = c .before .before .before .before .before .before .args in
-    put-full (a .spacing) (a .room) (a .w) (a .q) (a .b) (c .before .before .before .pieces .ensures) (c .before .before .inside .ensures) (c .before .closes .ensures) (c .before .before .before .before .before .before .pre .held) _ (c .if1 .taken)
+    let a = c .before .before .before .before .before .args in
+    put-full (a .room) (a .w) (a .q) (a .n) (a .b) (c .before .before .inside .ensures) (c .before .closes .ensures) (c .before .before .before .before .before .pre .held) _ (c .if1 .taken)
 
--- src/path.rt:182:22
 mul-put-points : tie.Need-mul-put-points
 mul-put-points c = search needs
 
--- src/path.rt:182:5
 put-points-requires : tie.Need-put-points-requires
 put-points-requires c κs = search needs
 
--- src/path.rt:183:28
 add-put-closing : tie.Need-add-put-closing
 add-put-closing c = search needs
 
--- src/path.rt:183:23
 mul-put-closing : tie.Need-mul-put-closing
 mul-put-closing c = search needs
 
--- src/path.rt:183:5
 put-closing-requires : tie.Need-put-closing-requires
 put-closing-requires c κs = search needs
 
--- src/path.rt:170:1
 same-length : tie.Need-same-length
 same-length c = search needs
 
--- src/path.rt:170:1
 returns-2 : tie.Need-returns-2
 returns-2 c =
-    let a = c .before .before .before .before .before .before .before .before .before .before .before .before .before .before .args in
-    put-on (a .spacing) (a .room) (a .w) (a .q) (a .b) (c .before .before .before .before .before .before .before .before .before .before .before .pieces .ensures) (c .before .before .before .before .before .before .before .before .before .before .inside .ensures) (c .before .before .before .before .before .before .before .before .before .closes .ensures) (c .before .before .before .before .before .before .before .before .before .before .before .before .before .before .pre .held) _ (c .before .before .before .before .before .before .before .before .if1 .left) (c .before .before .before .before .before .before .put-points .ensures) (c .before .before .put-closing .ensures)
+    let a = c .before .before .before .before .before .before .before .before .before .before .before .before .before .args in
+    put-on (a .room) (a .w) (a .q) (a .n) (a .b) (c .before .before .before .before .before .before .before .before .before .before .inside .ensures) (c .before .before .before .before .before .before .before .before .before .closes .ensures) (c .before .before .before .before .before .before .before .before .before .before .before .before .before .pre .held) _ (c .before .before .before .before .before .before .before .before .if1 .left) (c .before .before .before .before .before .before .put-points .ensures) (c .before .before .put-closing .ensures)
 
 pub put-leaving-spec : {M : Type 1} → statement M
 put-leaving-spec =
     tie.close
     (tie.spec
-    pieces-requires
     inside-requires
     closes-requires
     add-k
