@@ -31,10 +31,6 @@ fn real(list: &[f64], at: usize) -> f64 {
     0.0
 }
 
-fn small(list: &[u64], at: usize) -> u32 {
-    (whole(list, at) % 4294967296) as u32
-}
-
 // ---- a record from its numbers
 
 fn given_from(wholes: &[u64], reals: &[f64]) -> Given {
@@ -67,7 +63,7 @@ fn walk_from(wholes: &[u64], reals: &[f64]) -> Walk {
         triangle: whole(wholes, 8) as usize,
         edge: whole(wholes, 9) as usize,
         points: whole(wholes, 10) as usize,
-        end: small(wholes, 11),
+        end: whole(wholes, 11) as usize,
     }
 }
 
@@ -77,7 +73,7 @@ fn stand_from(wholes: &[u64], reals: &[f64]) -> Stand {
         place: whole(wholes, 5) as usize,
         rs: real(reals, 4),
         norms: whole(wholes, 6) as usize,
-        end: small(wholes, 7),
+        end: whole(wholes, 7) as usize,
         walk,
         crossings: whole(wholes, 12) as usize,
     }

@@ -46,7 +46,7 @@ fn space_fault(p: Plan, floats: usize, words: usize, path: usize) -> u32
 }
 
 // How many norms there may be: one more than the limit where the field has its end.
-fn norms_most(limit: usize, end: u32) -> usize
+fn norms_most(limit: usize, end: usize) -> usize
     requires { ⌜ limit ≤ 100000 ⌝ }
     ensures { λ r. ⌜ r ≡ limit + pick (eqb end 0) 0 1 ⌝ }
 {

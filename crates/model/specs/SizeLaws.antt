@@ -25,14 +25,11 @@ use Rattle.laplace.specs.Assembly.{Push, pushes, row, rows, lowered, coupled, a
 use Rattle.conjugate.specs.Solver as Solver
 use Rattle.conjugate.specs.Solver.{Solve, Turn, halted, reached, moved, begun}
 use Rattle.gradient.specs.Gradient.{gradients}
-use Rattle.pde.specs.declared.Exit.{Exit}
-use Rattle.pde.specs.declared.Side.{Side}
 use Rattle.pde.specs.declared.Beyond.{Beyond}
 use Rattle.pde.specs.declared.Crossing.{Crossing}
 use Rattle.pde.specs.declared.Walk.{Walk}
-use Rattle.pde.specs.Exit.{exitEdge, entryEdge, cutMatch}
-use Rattle.pde.specs.Crossing.{gradientAt, magnitude, direction, valueIn, entering, beyond, left, crossing}
-use Rattle.pde.specs.Bounds.{ExitIn, SideIn, BeyondIn, CrossingIn, exit-in, entry-in, cut-in}
+use Rattle.pde.specs.Crossing.{crossing}
+use Rattle.pde.specs.Bounds.{BeyondIn, CrossingIn, Neighbouring, crossing-in}
 use Rattle.pde.specs.PathLaws.{gone-points, walked-more}
 use Rattle.pde.specs.Path.{ended, gone, adds, added, walked}
 use Rattle.format.specs.Content.{Content, vertexCount, triangleCount, limitOf, toleranceOf}
@@ -186,49 +183,11 @@ crossing-room c us t h =
 
 -- ---- the triangle that a crossing leads into
 
-entering-in : (above : Float) (vs : List Float) (ts : List ℕ) (us : List Float) (p : Point) (T : ℕ) (s : Side) (other : Beyond) → SideIn T s → BeyondIn T other
-    → BeyondIn T (entering above vs ts us p s other)
-unfolding entering
-entering-in above vs ts us p T Side.Nothing other h k = k
-entering-in above vs ts us p T (Side.Of t e) other h k = go (lt above (valueIn vs ts us t p))
-  where
-    go : (b : Bool) → BeyondIn T (pick b Beyond.Above (Beyond.Into t e))
-    go true = tt
-    go false = h
-
-beyond-in : (c : Content) → Sized c → (above : Float) (us : List Float) (t e : ℕ) (p : Point) → t < triangleCount c → e < 3
-    → BeyondIn (triangleCount c) (beyond above (c .vertices) (c .triangles) (c .neighbours) (triangleCount c) us t e p)
-unfolding beyond neighbour
-beyond-in c s above us t e p h k = go (eqb next noNeighbour) refl
-  where
-    next : ℕ
-    next = getD (c .neighbours) (3 * t + e) 0
-
-    range : next ≢ noNeighbour → next < triangleCount c
-    range n = ⊎-elim (λ (z : next ≡ noNeighbour). absurd (n z)) (λ (z : next < triangleCount c). z) (s .inRange (3 * t + e) (omega (arith, s .neighbours)))
-
-    go : (b : Bool) → eqb next noNeighbour ≡ b
-        → BeyondIn (triangleCount c) (pick b (entering above (c .vertices) (c .triangles) us p (cutMatch (c .triangles) (c .neighbours) (triangleCount c) t e) Beyond.Border)
-        (entering above (c .vertices) (c .triangles) us p (entryEdge (c .neighbours) next t) Beyond.Unnamed))
-    go true z = entering-in above (c .vertices) (c .triangles) us p (triangleCount c) _ Beyond.Border (cut-in (c .triangles) (c .neighbours) (triangleCount c) t e) tt
-    go false z = entering-in above (c .vertices) (c .triangles) us p (triangleCount c) _ Beyond.Unnamed (entry-in (c .neighbours) (triangleCount c) next t (range (eqb-false next noNeighbour z))) tt
-
-left-in : (c : Content) → Sized c → (us : List Float) (pos : Point) (t : ℕ) (x : Exit) → t < triangleCount c → ExitIn x
-    → CrossingIn (triangleCount c) (left rule (c .vertices) (c .triangles) (c .neighbours) (triangleCount c) us pos t x)
-left-in c s us pos t Exit.Nothing h k = tt
-left-in c s us pos t (Exit.Through e p) h k = beyond-in c s (rule .above) us t e p h k
-
-crossing-in : (c : Content) → Sized c → (us gs : List Float) (pos : Point) (t entry : ℕ) → t < triangleCount c
-    → CrossingIn (triangleCount c) (crossing rule (c .vertices) (c .triangles) (c .neighbours) (triangleCount c) us gs (stepOf c) pos t entry)
-unfolding crossing
-crossing-in c s us gs pos t entry h = go (lt (magnitude (gradientAt gs t)) (rule .dull))
-  where
-    exit : Exit
-    exit = exitEdge (c .vertices) (c .triangles) t pos (direction (stepOf c) (gradientAt gs t) (magnitude (gradientAt gs t))) entry
-
-    go : (b : Bool) → CrossingIn (triangleCount c) (pick b Crossing.Dull (left rule (c .vertices) (c .triangles) (c .neighbours) (triangleCount c) us pos t exit))
-    go true = tt
-    go false = left-in c s us pos t exit h (exit-in (c .vertices) (c .triangles) t pos _ entry)
+neighbouring : (c : Content) → Sized c → Neighbouring (c .neighbours) (triangleCount c)
+unfolding neighbour
+neighbouring c s t e h k n =
+    let next = getD (c .neighbours) (3 * t + e) 0 in
+    ⊎-elim (λ (z : next ≡ noNeighbour). absurd (n z)) (λ (z : next < triangleCount c). z) (s .inRange (3 * t + e) (omega (arith, s .neighbours)))
 
 -- a walk is in one of the triangles, which it entered by an edge or none
 pub record WalkIn (T : ℕ) (w : Walk) : Type 0 where
@@ -256,7 +215,7 @@ crossing-walk c s us t h =
     x = crossing rule (c .vertices) (c .triangles) (c .neighbours) (triangleCount c) us (t .gradients) (stepOf c) (t .walk .position) (t .walk .triangle) (t .walk .edge)
 
     inside : CrossingIn (triangleCount c) x
-    inside = crossing-in c s us (t .gradients) (t .walk .position) (t .walk .triangle) (t .walk .edge) (h .triangle)
+    inside = crossing-in rule (c .vertices) (c .triangles) (c .neighbours) (triangleCount c) us (neighbouring c s) (t .gradients) (stepOf c) (t .walk .position) (t .walk .triangle) (t .walk .edge) (h .triangle)
 
 -- the path after a crossing begins with the path before it
 pub crossing-path : (c : Content) (us : List Float) (t : Trail) → (more : List Float) × (crossingPass c us t .path ≡ t .path ++ more)

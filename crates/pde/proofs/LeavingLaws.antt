@@ -1,8 +1,10 @@
--- Laws of a crossing whose gradient is not too small: no exit, and an exit with the pieces of the way to it. Assumes nothing.
+-- Laws of a crossing whose gradient is not too small: no exit, and an exit with the pieces of the way to it; and of the edge that is entered beyond. Assumes nothing.
 use mathlib.Core.Path.{_≡_, refl, sym, ap, _∙_}
 use mathlib.Core.Bool.{false}
 use mathlib.Core.List.{List}
-use Prim.Native.Nat.{ℕ}
+use Prim.Native.Nat.{ℕ, _<_}
+use borrow.Author.Tests.{eq-eqb, ne-eqb}
+use Rattle.mesh.specs.Mesh.{neighbour, noNeighbour}
 use lib.Ieee.{Float, lt}
 use Rattle.binary64.specs.Arith.{_⊘_}
 use Rattle.binary64.specs.Number.{ceilCount}
@@ -12,9 +14,10 @@ use Rattle.pde.specs.declared.Nearest.{Nearest}
 use Rattle.pde.specs.declared.Beyond.{Beyond}
 use Rattle.pde.specs.declared.Crossing.{Crossing}
 use Rattle.pde.specs.declared.Rule.{Rule}
-use Rattle.pde.specs.Exit.{distance, nearestOf, exitEdge}
-use Rattle.pde.specs.Crossing.{gradientAt, magnitude, direction, beyond, pieces, left, crossing}
-use Rattle.pde.specs.Bounds.{exit-far}
+use Rattle.pde.specs.Exit.{distance, nearestOf, entryEdge, cutMatch}
+use Rattle.pde.specs.Crossing.{gradientAt, magnitude, direction, entered, beyond, pieces, left, crossing}
+use Rattle.pde.specs.declared.Side.{Side}
+use Rattle.pde.specs.Bounds.{SideIn, Neighbouring, exit-far, cut-in, entry-in}
 
 module _ (rule : Rule) (vs : List Float) (ts ns : List ℕ) (count : ℕ) (us gs : List Float) (step : Float) (pos : Point) (t entry : ℕ) {g dir : Point} {mag : Float} {best : Nearest}
     (isg : g ≡ gradientAt gs t) (ism : mag ≡ magnitude g) (bright : lt mag (rule .dull) ≡ false) (isd : dir ≡ direction step g mag) (isb : best ≡ nearestOf vs ts t pos dir entry 3) where
@@ -32,3 +35,16 @@ module _ (rule : Rule) (vs : List Float) (ts ns : List ℕ) (count : ℕ) (us gs
       → Crossing.Leaves p n b ≡ crossing rule vs ts ns count us gs step pos t entry
   unfolding pieces
   crossing-leaves {e} {n} {p} {b} h isn isb′ = sym (to-left ∙ ap (left rule vs ts ns count us pos t) h ∙ rw (← far-away h, ← isn, ← isb′) refl)
+
+-- ---- the edge that is entered
+
+module _ (ts ns : List ℕ) (n t e next : ℕ) (r : Side) where
+  pub entered-cut : next ≡ neighbour ns t e → next ≡ noNeighbour → r ≡ cutMatch ts ns n t e → (r ≡ entered ts ns n t e) × (SideIn n r)
+  unfolding entered
+  entered-cut is none h = (rw (← is, eq-eqb next noNeighbour none) h, rw h (cut-in ts ns n t e))
+
+  pub entered-back : Neighbouring ns n → t < n → e < 3 → next ≡ neighbour ns t e → (next ≡ noNeighbour → ⊥) → {w : ℕ} → w ≡ next → r ≡ entryEdge ns w t → (r ≡ entered ts ns n t e) × (SideIn n r)
+  unfolding entered
+  entered-back inside below edge is some {w} wide h =
+      let h′ : r ≡ entryEdge ns next t = rw wide at h in
+      (rw (← is, ne-eqb next noNeighbour some) h′, rw h′ (entry-in ns n next t (rw is (inside t e below edge (λ x. some (is ∙ x))))))

@@ -12,10 +12,7 @@ use Rattle.binary64.specs.Number.{pick}
 use Rattle.plane.specs.declared.Point.{Point}
 use Rattle.plane.specs.declared.Hit.{Hit}
 use Rattle.plane.specs.Plane.{rayLineIntersection}
-use Rattle.mesh.specs.declared.Mesh.{Mesh}
 use Rattle.mesh.specs.Mesh.{vertex, corner, neighbour, noNeighbour, onward}
-use Rattle.mesh.specs.Work.{trianglesOf, neighboursOf, Linked}
-use Rattle.mesh.specs.WorkLaws.{neighbour-below}
 use Rattle.pde.specs.Search.{firstOf}
 use Rattle.pde.specs.declared.Exit.{Exit}
 use Rattle.pde.specs.declared.Nearest.{Nearest}
@@ -26,7 +23,7 @@ use Rattle.pde.specs.declared.Rule.{Rule}
 use Rattle.pde.specs.declared.Start.{Start}
 use Rattle.pde.specs.Start.{noEdge, orElse, contains, containedIn, triangleContaining, isInner, middle, innerEdge, innerEdgeOf, firstInner, leastVertex, has, centroid, centroidWith, firstWith, pickStart}
 use Rattle.pde.specs.Exit.{distance, orSide, isCut, offered, considered, nearestOf, exitEdge, namesBack, entryEdge, cutEdge, cutTriangle, cutMatch, nearest}
-use Rattle.pde.specs.Crossing.{gradientAt, magnitude, direction, valueIn, entering, beyond, left, crossing}
+use Rattle.pde.specs.Crossing.{gradientAt, magnitude, direction, valueIn, entering, entered, unentered, beyond, left, crossing}
 
 -- ---- where an answer points
 
@@ -183,26 +180,27 @@ unfolding entering
 entering-in n above vs ts us p (Side.Of t e) other h k = pick-in (BeyondIn n) (lt above (valueIn vs ts us t p)) Beyond.Above (Beyond.Into t e) (λ _. tt) (λ _. h)
 entering-in n above vs ts us p Side.Nothing other h k = k
 
-module _ {words : List ℕ} {m : Mesh} (linked : Linked words m) (vs us : List Float) where
-  beyond-in : (above : Float) (t e : ℕ) (p : Point) → t < m .t → e < 3 → BeyondIn (m .t) (beyond above vs (trianglesOf words m) (neighboursOf words m) (m .t) us t e p)
+unentered-in : (n next : ℕ) → BeyondIn n (unentered next)
+unfolding unentered
+unentered-in n next = pick-in (BeyondIn n) (eqb next noNeighbour) Beyond.Border Beyond.Unnamed (λ _. tt) (λ _. tt)
+
+-- each neighbour is one of the n triangles, or none
+abbrev pub Neighbouring : List ℕ → ℕ → Type 0
+Neighbouring ns n = (t e : ℕ) → t < n → e < 3 → (neighbour ns t e ≡ noNeighbour → ⊥) → neighbour ns t e < n
+
+pub entered-in : (ts ns : List ℕ) (n : ℕ) → Neighbouring ns n → (t e : ℕ) → t < n → e < 3 → SideIn n (entered ts ns n t e)
+unfolding entered
+entered-in ts ns n inside t e h k = pick-in (SideIn n) (eqb (neighbour ns t e) noNeighbour) _ _ (λ _. cut-in ts ns n t e) (λ f. entry-in ns n _ t (inside t e h k (eqb-false _ _ f)))
+
+module _ (rule : Rule) (vs : List Float) (ts ns : List ℕ) (n : ℕ) (us : List Float) (inside : Neighbouring ns n) where
+  left-in : (pos : Point) (t : ℕ) (exit : Exit) → t < n → ExitIn exit → CrossingIn n (left rule vs ts ns n us pos t exit)
   unfolding beyond
-  beyond-in above t e p h k =
-      let ts = trianglesOf words m in
-      let ns = neighboursOf words m in
-      pick-in (BeyondIn (m .t)) (eqb (neighbour ns t e) noNeighbour) _ _
-      (λ _. entering-in (m .t) above vs ts us p _ Beyond.Border (cut-in ts ns (m .t) t e) tt)
-      (λ f. entering-in (m .t) above vs ts us p _ Beyond.Unnamed (entry-in ns (m .t) _ t (neighbour-below linked t e h k (eqb-false _ _ f))) tt)
+  left-in pos t (Exit.Through e p) h k = entering-in n (rule .above) vs ts us p _ _ (entered-in ts ns n inside t e h k) (unentered-in n _)
+  left-in pos t Exit.Nothing h k = tt
 
-  left-in : (rule : Rule) (pos : Point) (t : ℕ) (exit : Exit) → t < m .t → ExitIn exit → CrossingIn (m .t) (left rule vs (trianglesOf words m) (neighboursOf words m) (m .t) us pos t exit)
-  left-in rule pos t (Exit.Through e p) h k = beyond-in (rule .above) t e p h k
-  left-in rule pos t Exit.Nothing h k = tt
-
-pub crossing-in : {words : List ℕ} {m : Mesh} (linked : Linked words m) (rule : Rule) (vs us gs : List Float) (step : Float) (pos : Point) (t entry : ℕ) → t < m .t
-    → CrossingIn (m .t) (crossing rule vs (trianglesOf words m) (neighboursOf words m) (m .t) us gs step pos t entry)
-unfolding crossing
-crossing-in {words} {m} linked rule vs us gs step pos t entry h =
-    let ts = trianglesOf words m in
-    let mag = magnitude (gradientAt gs t) in
-    let exit = exitEdge vs ts t pos (direction step (gradientAt gs t) mag) entry in
-    pick-in (CrossingIn (m .t)) (lt mag (rule .dull)) Crossing.Dull (left rule vs ts (neighboursOf words m) (m .t) us pos t exit)
-    (λ _. tt) (λ _. left-in linked vs us rule pos t exit h (exit-in vs ts t pos _ entry))
+  pub crossing-in : (gs : List Float) (step : Float) (pos : Point) (t entry : ℕ) → t < n → CrossingIn n (crossing rule vs ts ns n us gs step pos t entry)
+  unfolding crossing
+  crossing-in gs step pos t entry h =
+      let mag = magnitude (gradientAt gs t) in
+      let exit = exitEdge vs ts t pos (direction step (gradientAt gs t) mag) entry in
+      pick-in (CrossingIn n) (lt mag (rule .dull)) Crossing.Dull (left rule vs ts ns n us pos t exit) (λ _. tt) (λ _. left-in pos t exit h (exit-in vs ts t pos _ entry))

@@ -50,11 +50,17 @@ unfoldable pub entering : Float → List Float → List ℕ → List Float → P
 entering above vs ts us p (Side.Of t e) other = pick (lt above (valueIn vs ts us t p)) Beyond.Above (Beyond.Into t e)
 entering above vs ts us p Side.Nothing other = other
 
--- beyond edge e of triangle t, left at p: over a cut edge, or to the neighbour by the edge that names us back
+-- the edge that is entered beyond edge e of triangle t: over a cut edge, or the neighbour's edge that names us back
+unfoldable pub entered : List ℕ → List ℕ → ℕ → ℕ → ℕ → Side
+entered ts ns count t e = let next = neighbour ns t e in pick (eqb next noNeighbour) (cutMatch ts ns count t e) (entryEdge ns next t)
+
+-- where none is: the border, or a neighbour that does not name us back
+unfoldable pub unentered : ℕ → Beyond
+unentered next = pick (eqb next noNeighbour) Beyond.Border Beyond.Unnamed
+
+-- beyond edge e of triangle t, left at p
 unfoldable pub beyond : Float → List Float → List ℕ → List ℕ → ℕ → List Float → ℕ → ℕ → Point → Beyond
-beyond above vs ts ns count us t e p =
-    let next = neighbour ns t e in
-    pick (eqb next noNeighbour) (entering above vs ts us p (cutMatch ts ns count t e) Beyond.Border) (entering above vs ts us p (entryEdge ns next t) Beyond.Unnamed)
+beyond above vs ts ns count us t e p = entering above vs ts us p (entered ts ns count t e) (unentered (neighbour ns t e))
 
 -- in how many pieces the way from p to q is laid, each no longer than the spacing
 unfoldable pub pieces : Float → Point → Point → ℕ

@@ -10,7 +10,8 @@ use plane::Point;
 ghost use mathlib.Core.Path.{_≡_};
 ghost use Prim.Native.Nat.{_+_, _*_, _<_, _≤_};
 ghost use lib.ListN.{length};
-ghost use Rattle.mesh.specs.Work.{verticesOf, trianglesOf, neighboursOf, Meshed};
+ghost use Rattle.mesh.specs.Mesh as Lists;
+ghost use Rattle.mesh.specs.Work.{verticesOf, trianglesOf, neighboursOf, Linked, Meshed};
 ghost use Rattle.pde.specs.Bounds.{SideIn};
 ghost use Rattle.pde.specs.Crossing as Crossings;
 ghost use Rattle.pde.specs.Work.{Fielded, Graded, fieldOf, gradientsOf, crossingIn};
@@ -90,7 +91,28 @@ fn entering(
     Beyond::Into(t, e)
 }
 
-// Beyond edge e of triangle t, left at p: over a cut edge, or to the neighbour by the edge that names us back.
+// The edge that is entered beyond edge e of triangle t, whose neighbour is `next`: over a cut edge, or the one that names us back.
+fn entered(words: &[u32], m: Mesh, t: usize, e: usize, next: u32) -> Side
+    requires { ⌜ (Linked (now words) m) × (t < m .t) × (e < 3) × (next ≡ Lists.neighbour (neighboursOf (now words) m) t e) ⌝ }
+    ensures { λ r. ⌜ (r ≡ Crossings.entered (trianglesOf (now (words .entry)) m) (neighboursOf (now (words .entry)) m) (m .t) t e) × (SideIn (m .t) r) ⌝ }
+{
+    if next == mesh::NONE {
+        return edges::find_cut_edge_match(words, m, t, e);
+    }
+    edges::entry_edge_of(words, m, mesh::wide(next), t)
+}
+
+// Where no edge is entered: the border, or a neighbour that does not name us back.
+fn unentered(next: u32) -> Beyond
+    ensures { λ r. ⌜ r ≡ Crossings.unentered next ⌝ }
+{
+    if next == mesh::NONE {
+        return Beyond::Border;
+    }
+    Beyond::Unnamed
+}
+
+// Beyond edge e of triangle t, left at p.
 fn beyond(
     floats: &[f64],
     words: &[u32],
@@ -105,12 +127,8 @@ fn beyond(
     ensures { λ r. ⌜ r ≡ Crossings.beyond above (verticesOf (now (floats .entry)) m) (trianglesOf (now (words .entry)) m) (neighboursOf (now (words .entry)) m) (m .t) (fieldOf (now (floats .entry)) m u) t e p ⌝ }
 {
     let next = mesh::neighbour(words, m, t, e);
-    if next == mesh::NONE {
-        let cut = edges::find_cut_edge_match(words, m, t, e);
-        return entering(floats, words, m, u, above, p, cut, Beyond::Border);
-    }
-    let back = edges::entry_edge_of(words, m, mesh::wide(next), t);
-    entering(floats, words, m, u, above, p, back, Beyond::Unnamed)
+    let side = entered(words, m, t, e, next);
+    entering(floats, words, m, u, above, p, side, unentered(next))
 }
 
 // What crossing triangle t from `pos`, entered by an edge, comes to.

@@ -59,5 +59,5 @@ pub struct Walk {
     pub triangle: usize,
     pub edge: usize,
     pub points: usize,
-    pub end: u32,
+    pub end: usize,
 }

@@ -73,7 +73,7 @@ fn put_closing(path: &mut [f64], at: usize, q: Point, b: Beyond)
 
 // ---- the path after a crossing
 
-fn ended(w: Walk, end: u32) -> Walk
+fn ended(w: Walk, end: usize) -> Walk
     ensures { λ r. ⌜ r ≡ Paths.ended w end ⌝ }
 {
     let position = w.position;
@@ -86,7 +86,7 @@ fn ended(w: Walk, end: u32) -> Walk
     }
 }
 
-fn with_points(w: Walk, k: usize, end: u32) -> Walk
+fn with_points(w: Walk, k: usize, end: usize) -> Walk
     requires { ⌜ w .points + k < 2 ^ 64 ⌝ }
     ensures { λ r. ⌜ r ≡ Paths.withPoints w k end ⌝ }
 {
@@ -101,7 +101,7 @@ fn with_points(w: Walk, k: usize, end: u32) -> Walk
 }
 
 // End 6 where this was the last crossing.
-fn end_of(last: bool) -> u32
+fn end_of(last: bool) -> usize
     ensures { λ r. ⌜ r ≡ pick last 6 0 ⌝ }
 {
     if last {

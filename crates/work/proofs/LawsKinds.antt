@@ -7,7 +7,7 @@ use Prim.Native.Nat.{ℕ, _+_, _*_, _≤_, _<_}
 use native.Mathlib.Omega.{arith}
 use borrow.Author.Tests.{eq-eqb, ne-eqb}
 use lib.Dec.{eqb, leb}
-use lib.ListN.{length, replicate}
+use lib.ListN.{length, replicate, take, take-append-drop}
 use lib.Ieee.{Float}
 use Rattle.binary64.specs.Constants.{plusZero}
 use Rattle.binary64.specs.Number.{pick}
@@ -33,7 +33,7 @@ use Rattle.pde.specs.declared.Start.{Start}
 use Rattle.pde.specs.declared.Walk.{Walk}
 use Rattle.pde.specs.declared.Crossing.{Crossing}
 use Rattle.pde.specs.Start.{triangleContaining, pickStart}
-use Rattle.pde.specs.Path.{ended, walked}
+use Rattle.pde.specs.Path.{ended, walked, added}
 use Rattle.pde.specs.Work.{Fielded, Graded, fieldOf, gradientsOf, crossingIn}
 use Rattle.model.specs.Run.{rule, nowhere}
 use Rattle.work.specs.declared.Given.{Given}
@@ -42,11 +42,11 @@ use Rattle.work.specs.declared.Plan.{Plan}
 use Rattle.work.specs.declared.Stand.{Stand}
 use Rattle.work.specs.declared.Step.{Step}
 use Rattle.work.specs.Layout.{atX, atR, atP, atProduct, atGradients, atNorms, matrixAt, meshAt, vectorsAt}
-use Rattle.work.specs.Memory.{Stepped, vectorsIn, solvedStand, solvedStep, solveStep, setOut, walkedStand, startBy, beginStep, crossingOf, crossStep, nextOf, stepOn}
-use Rattle.work.specs.Ready.{Ready, Standing, Steps}
+use Rattle.work.specs.Memory.{Stepped, vectorsIn, solvedStand, solvedStep, solveStep, setOut, walkedStand, crossedStand, startBy, beginStep, crossingOf, crossStep, nextOf, stepOn, work, once}
+use Rattle.work.specs.Ready.{Ready, Standing, Crosses, Steps, Comes}
 use Rattle.work.specs.Kinds.{Searchable, Leads, gradientsPut, foundBy, lostBy}
 use Rattle.work.specs.StandingLaws.{turnOf, step-over}
-use Rattle.work.proofs.Laws.{pick-small}
+use Rattle.work.proofs.Laws.{pick-small, once-comes}
 
 -- ---- a pass of solving
 
@@ -181,15 +181,14 @@ pub crossing-is : (plan : Plan) (words : List ℕ) (f : List Float) (s : Stand) 
 unfolding verticesOf trianglesOf neighboursOf fieldOf gradientsOf
 crossing-is plan words f s m u at r em eu ea e = rw (em, eu, ea) at e
 
-pub cross-leads : (plan : Plan) (words : List ℕ) (f : List Float) (s : Stand) (c : Crossing) (last : Bool) (w : Walk) (s′ : Stand) → c ≡ crossingOf plan words f s
-    → last ≡ eqb (s .crossings + 1) (20 * plan .t) → w ≡ walked (plan .room) last (s .walk) c → s′ ≡ walkedStand s w (s .crossings + 1)
+pub crossed-is : (plan : Plan) (s : Stand) (c : Crossing) (last : Bool) (w : Walk) (s′ : Stand)
+    → last ≡ eqb (s .crossings + 1) (20 * plan .t) → w ≡ walked (plan .room) last (s .walk) c → s′ ≡ walkedStand s w (s .crossings + 1) → s′ ≡ crossedStand plan s c
+crossed-is plan s c last w s′ el ew es = es ∙ ap (λ (x : Walk). walkedStand s x (s .crossings + 1)) (ew ∙ ap (λ (b : Bool). walked (plan .room) b (s .walk) c) el)
+
+pub cross-leads : (plan : Plan) (words : List ℕ) (f : List Float) (s : Stand) (c : Crossing) (s′ : Stand) → c ≡ crossingOf plan words f s → s′ ≡ crossedStand plan s c
     → Leads (crossStep plan words f s) (record { stand = s′; gives = Gives.Crossed c }) f
 unfolding crossStep
-cross-leads plan words f s c last w s′ ec el ew es = record {
-  stand = es ∙ ap (λ (x : Walk). walkedStand s x (s .crossings + 1)) (ew ∙ ap₂ (λ b x. walked (plan .room) b (s .walk) x) el ec);
-  gives = ap Gives.Crossed ec;
-  front = refl;
-}
+cross-leads plan words f s c s′ ec es = record { stand = es ∙ ap (crossedStand plan s) ec; gives = ap Gives.Crossed ec; front = refl }
 
 -- ---- any pass
 
@@ -218,3 +217,12 @@ module _ (plan : Plan) (words : List ℕ) (f : List Float) (s : Stand) where
     pub steps-cross : s .walk .end ≡ 0 → (s .end ≡ 0 → ⊥) → (s .walk .points ≡ 0 → ⊥) → Leads (crossStep plan words f s) r f′ → Steps plan words f s r f′
     unfolding stepOn nextOf
     steps-cross e z k l = leads-steps (crossStep plan words f s) (rw (eq-eqb (s .walk .end) 0 e, ne-eqb (s .end) 0 z, ne-eqb (s .walk .points) 0 k)) l
+
+-- ---- a crossing on the whole buffers
+
+pub cross-comes : (plan : Plan) (words : List ℕ) (s : Stand) (m p p′ : List Float) (c : Crossing) (s′ : Stand) (k : ℕ) → k ≡ atNorms (plan .n) (plan .t) → Crosses s
+    → c ≡ crossingOf plan words (take k m) s → p′ ≡ splice p (2 * s .walk .points) (added (plan .room) (s .walk) c) → s′ ≡ crossedStand plan s c → Comes (once plan words (work m p s)) s′ m p′
+cross-comes plan words s m p p′ c s′ k e x ec ep es =
+    once-comes plan words s m p (take k m) m p′ (record { stand = s′; gives = Gives.Crossed c }) k e
+    (steps-cross plan words (take k m) s _ (take k m) (x .unended) (x .solved) (x .some) (cross-leads plan words (take k m) s c s′ ec es))
+    (sym (take-append-drop k m), ep)

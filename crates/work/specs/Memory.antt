@@ -71,6 +71,9 @@ solvedStep plan s f (moved next norm) =
 abbrev pub walkedStand : Stand → Walk → ℕ → Stand
 walkedStand s w k = record { place = s .place + 1; rs = s .rs; norms = s .norms; end = s .end; walk = w; crossings = k }
 
+abbrev pub crossedStand : Plan → Stand → Crossing → Stand
+crossedStand plan s x = walkedStand s (walked (plan .room) (eqb (s .crossings + 1) (factor * plan .t)) (s .walk) x) (s .crossings + 1)
+
 unfoldable pub setOut : Stand → List Float → ℕ → Start → Stepped
 setOut s f otherwise (Start.At p t e) = stepped f (walkedStand s (record { position = p; triangle = t; edge = e; points = 1; end = 0 }) 0) (Gives.First p)
 setOut s f otherwise Start.Nothing = stepped f (walkedStand s (ended nowhere otherwise) 0) Gives.Nothing
@@ -116,8 +119,7 @@ module _ (plan : Plan) (words : List ℕ) (f : List Float) (s : Stand) where
   crossingOf = crossing rule vs ts ns t us (part f (atGradients n t) (2 * t)) (plan .step) (s .walk .position) (s .walk .triangle) (s .walk .edge)
 
   unfoldable pub crossStep : Stepped
-  crossStep =
-      stepped f (walkedStand s (walked (plan .room) (eqb (s .crossings + 1) (factor * t)) (s .walk) crossingOf) (s .crossings + 1)) (Gives.Crossed crossingOf)
+  crossStep = stepped f (crossedStand plan s crossingOf) (Gives.Crossed crossingOf)
 
   abbrev pub stepBy : Next → Stepped
   stepBy over = stepped f s Gives.Nothing

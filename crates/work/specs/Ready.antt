@@ -60,6 +60,12 @@ pub record Writable (plan : Plan) (s : Stand) (floats path : ℕ) : Type 0 where
   pub room-most : plan .room ≤ maxRoom
   pub path-fit : pathSpace (plan .room) ≤ path
 
+-- the next pass is a crossing
+pub record Crosses (s : Stand) : Type 0 where
+  pub unended : s .walk .end ≡ 0
+  pub solved : s .end ≡ 0 → ⊥
+  pub some : s .walk .points ≡ 0 → ⊥
+
 -- ---- what the functions ensure
 
 -- one pass on a front

@@ -28,7 +28,8 @@ use Rattle.work.specs.declared.Given.{Given}
 use Rattle.work.specs.declared.Gives.{Gives}
 use Rattle.work.specs.declared.Plan.{Plan}
 use Rattle.work.specs.declared.Stand.{Stand}
-use Rattle.work.specs.Layout.{atX, atGradients, atNorms, matrixAt}
+use Rattle.work.specs.Layout.{atX, atGradients, atNorms, atNeighbours, matrixAt}
+use Rattle.mesh.specs.WorkLaws.{neighbour-below}
 use Rattle.work.specs.Memory.{Stepped, stepped, vectorsIn, solvedStep, setOut, solveStep, graded, startBy, beginStep, crossingOf, walkedStand, crossStep, nextOf, stepBy, stepOn, Work, work, frontOf, once, goes}
 use Rattle.work.specs.Ready.{Ready, Standing}
 
@@ -145,7 +146,7 @@ cross-standing : (plan : Plan) (words : List ℕ) (f : List Float) (s : Stand) �
 unfolding crossStep trianglesOf neighboursOf
 cross-standing plan words f s r st e n =
     on-standing plan s (crossingOf plan words f s) (eqb (s .crossings + 1) (factor * plan .t)) refl st e n
-    (crossing-in (r .linked) rule (part f 0 (2 * plan .n)) (part f (atX (plan .n) (plan .t)) (plan .n)) (part f (atGradients (plan .n) (plan .t)) (2 * plan .t)) (plan .step) (s .walk .position) (s .walk .triangle) (s .walk .edge)
+    (crossing-in rule (part f 0 (2 * plan .n)) (part words 0 (3 * plan .t)) (part words (atNeighbours (plan .t)) (3 * plan .t)) (plan .t) (part f (atX (plan .n) (plan .t)) (plan .n)) (neighbour-below (r .linked)) (part f (atGradients (plan .n) (plan .t)) (2 * plan .t)) (plan .step) (s .walk .position) (s .walk .triangle) (s .walk .edge)
     (st .triangle-in (omega arith)))
 
 -- ---- any pass

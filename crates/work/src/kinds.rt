@@ -13,7 +13,7 @@ use pde::Rule;
 use pde::Start;
 use pde::Walk;
 ghost use mathlib.Core.Path.{_≡_};
-ghost use Prim.Native.Nat.{_+_, _*_, _<_};
+ghost use Prim.Native.Nat.{_+_, _*_, _≤_, _<_};
 ghost use lib.Dec.{leb, eqb};
 ghost use lib.ListN.{length};
 ghost use Rattle.binary64.specs.Number.{pick};
@@ -22,7 +22,7 @@ ghost use Rattle.work.specs.Ready.{Steps};
 ghost use Rattle.work.specs.Kinds.{Steppable, Searchable, Crossable, Leads, foundBy, lostBy, gradientsPut};
 
 // The stand after a pass of solving.
-fn solved_stand(s: Stand, rs: f64, norms: usize, end: u32) -> Stand
+fn solved_stand(s: Stand, rs: f64, norms: usize, end: usize) -> Stand
     requires { ⌜ s .place < 1000000 ⌝ }
     ensures { λ r. ⌜ r ≡ Memory.solvedStand s rs norms end ⌝ }
 {
@@ -38,7 +38,7 @@ fn solved_stand(s: Stand, rs: f64, norms: usize, end: u32) -> Stand
 }
 
 // The end of a pass with no other end: 3 where the limit is used up.
-fn limit_end(limit: usize, norms: usize) -> u32
+fn limit_end(limit: usize, norms: usize) -> usize
     ensures { λ r. ⌜ r ≡ pick (leb limit norms) 3 0 ⌝ }
 {
     if limit <= norms { 3 } else { 0 }
@@ -106,7 +106,7 @@ fn find_start(front: &[f64], words: &[u32], plan: Plan) -> Start
 }
 
 // The path's end where no start is found.
-fn lost_end(given: Given) -> u32
+fn lost_end(given: Given) -> usize
     ensures { λ r. ⌜ r ≡ lostBy given ⌝ }
 {
     match given {
@@ -163,7 +163,7 @@ fn begin_step(front: &mut [f64], words: &[u32], plan: Plan, stand: Stand) -> Ste
 // ---- a crossing
 
 // What crossing the path's triangle comes to.
-fn crossing_of(front: &[f64], words: &[u32], plan: Plan, stand: Stand) -> Crossing
+pub fn crossing_of(front: &[f64], words: &[u32], plan: Plan, stand: Stand) -> Crossing
     requires { ⌜ Searchable plan (now words) (now front) × (stand .walk .triangle < plan .t) ⌝ }
     ensures { λ r. ⌜ r ≡ Memory.crossingOf plan (now (words .entry)) (now (front .entry)) stand ⌝ }
 {
@@ -199,17 +199,25 @@ fn is_last(made: usize, t: usize) -> bool
     made == Run::FACTOR * t
 }
 
+// The stand after a crossing.
+pub fn crossed(plan: Plan, stand: Stand, c: Crossing) -> Stand
+    requires { ⌜ (plan .t < 8193) × (stand .place < 1000000) × (stand .crossings < 20 * plan .t) × (stand .walk .points ≤ plan .room) ⌝ }
+    ensures { λ r. ⌜ r ≡ Memory.crossedStand plan stand c ⌝ }
+{
+    let made = stand.crossings + 1;
+    let last = is_last(made, plan.t);
+    let walk = stand.walk;
+    let next = pde::path::after(plan.room, last, walk, c);
+    walked_stand(stand, next, made)
+}
+
 // A crossing of the path's triangle.
 fn cross_step(front: &[f64], words: &[u32], plan: Plan, stand: Stand) -> Step
     requires { ⌜ Crossable plan (now words) (now front) stand ⌝ }
     ensures { λ r. ⌜ Leads (Memory.crossStep plan (now (words .entry)) (now (front .entry)) stand) r (now (front .entry)) ⌝ }
 {
     let c = crossing_of(front, words, plan, stand);
-    let made = stand.crossings + 1;
-    let last = is_last(made, plan.t);
-    let walk = stand.walk;
-    let next = pde::path::after(plan.room, last, walk, c);
-    let s = walked_stand(stand, next, made);
+    let s = crossed(plan, stand, c);
     Step {
         stand: s,
         gives: Gives::Crossed(c),

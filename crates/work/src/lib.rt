@@ -33,7 +33,7 @@ pub struct Stand {
     pub place: usize,
     pub rs: f64,
     pub norms: usize,
-    pub end: u32,
+    pub end: usize,
     pub walk: Walk,
     pub crossings: usize,
 }

@@ -4,13 +4,14 @@ use crate::Plan;
 use crate::Stand;
 use plane::Point;
 ghost use mathlib.Core.Path.{_≡_};
+ghost use mathlib.Core.Bool.{true};
 ghost use mathlib.Core.List.{[], _∷_};
 ghost use Prim.Native.Nat.{_+_, _≤_, _<_};
 ghost use lib.ListN.{length};
 ghost use Rattle.stretch.specs.Stretch.{splice};
 ghost use Rattle.work.specs.Memory as Memory;
 ghost use Rattle.work.specs.Memory.{floatsGiven, pathGiven, work};
-ghost use Rattle.work.specs.Ready.{Ready, Standing, Roomy, Writable, Comes};
+ghost use Rattle.work.specs.Ready.{Ready, Standing, Roomy, Writable, Crosses, Comes};
 
 // The first point of a path.
 fn put_first(path: &mut [f64], p: Point)
@@ -42,10 +43,37 @@ fn deliver(floats: &mut [f64], path: &mut [f64], plan: Plan, stand: Stand, gives
     }
 }
 
+// Whether a pass from a path that has no end is a crossing.
+fn crosses(stand: Stand) -> bool
+    requires { ⌜ stand .walk .end ≡ 0 ⌝ }
+    ensures { λ r. ⌜ (r ≡ true → Crosses stand) ⌝ }
+{
+    if stand.end == 0 {
+        return false;
+    }
+    stand.walk.points != 0
+}
+
+// A crossing on the lent buffers: its points are written behind the points, and nothing else.
+fn cross(floats: &[f64], words: &[u32], path: &mut [f64], plan: Plan, stand: Stand) -> Stand
+    requires { ⌜ Ready plan (now words) × Standing plan stand × (stand .place < 1000000) × Roomy plan (now floats) (now path) × Crosses stand ⌝ }
+    ensures { λ r. ⌜ Comes (Memory.once plan (now (words .entry)) (work (now (floats .entry)) (now (path .entry)) stand)) r (now (floats .entry)) (now (path .exit)) ⌝ }
+{
+    let f = crate::layout::at_norms(plan.n, plan.t);
+    let c = crate::kinds::crossing_of(&floats[..f], words, plan, stand);
+    let walk = stand.walk;
+    pde::path::put_added(path, plan.room, walk, c);
+    crate::kinds::crossed(plan, stand, c)
+}
+
+// A pass on the lent buffers.
 fn once(floats: &mut [f64], words: &[u32], path: &mut [f64], plan: Plan, stand: Stand) -> Stand
-    requires { ⌜ Ready plan (now words) × Standing plan stand × (stand .place < 1000000) × Roomy plan (now floats) (now path) ⌝ }
+    requires { ⌜ Ready plan (now words) × Standing plan stand × (stand .place < 1000000) × Roomy plan (now floats) (now path) × (stand .walk .end ≡ 0) ⌝ }
     ensures { λ r. ⌜ Comes (Memory.once plan (now (words .entry)) (work (now (floats .entry)) (now (path .entry)) stand)) r (now (floats .exit)) (now (path .exit)) ⌝ }
 {
+    if crosses(stand) {
+        return cross(floats, words, path, plan, stand);
+    }
     let f = crate::layout::at_norms(plan.n, plan.t);
     let d = crate::kinds::step(&mut floats[..f], words, plan, stand);
     let gives = d.gives;

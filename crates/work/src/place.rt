@@ -9,7 +9,7 @@ ghost use Rattle.work.specs.Memory as Memory;
 ghost use Rattle.work.specs.Record.{firstEnd};
 
 // No path, with an end or none (0).
-pub fn lost(end: u32) -> Walk
+pub fn lost(end: usize) -> Walk
     ensures { λ r. ⌜ r ≡ ended nowhere end ⌝ }
 {
     Walk {
@@ -21,7 +21,7 @@ pub fn lost(end: u32) -> Walk
     }
 }
 
-pub fn pathless(place: usize, rs: f64, norms: usize, end: u32) -> Stand
+pub fn pathless(place: usize, rs: f64, norms: usize, end: usize) -> Stand
     ensures { λ r. ⌜ r ≡ Memory.pathless place rs norms end ⌝ }
 {
     let walk = lost(0);
@@ -36,7 +36,7 @@ pub fn pathless(place: usize, rs: f64, norms: usize, end: u32) -> Stand
 }
 
 // The field's end at place 0.
-pub fn first_end(limit: usize) -> u32
+pub fn first_end(limit: usize) -> usize
     ensures { λ r. ⌜ r ≡ firstEnd limit ⌝ }
 {
     if limit == 0 { 3 } else { 0 }

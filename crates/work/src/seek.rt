@@ -18,7 +18,7 @@ ghost use Rattle.work.specs.Ready.{Ready, Comes};
 ghost use Rattle.work.specs.Seek.{Erasable, Again, Rewinds, Seeks};
 
 // The place at which solving ended: each pass adds a norm to the first, but for the one that ends with 2.
-fn solved_at(norms: usize, end: u32) -> usize
+fn solved_at(norms: usize, end: usize) -> usize
     requires { ⌜ 1 ≤ norms ⌝ }
     ensures { λ r. ⌜ r ≡ solvedAt norms end ⌝ }
 {
