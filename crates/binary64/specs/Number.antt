@@ -2,7 +2,6 @@
 -- lib.Ieee has one `nan`, so any NaN counts as any other, as document 01 has it. Assumes nothing.
 use Prim.Native.Nat.{ℕ, _+_, _-_, _*_, _/_, _^_, min}
 use mathlib.Core.Bool.{Bool, true, false}
-use lib.IntN.{ℤ}
 use lib.Ieee.{Float, nan, inf, fin, up, down, lt}
 use Rattle.binary64.specs.Constants.{plusZero, one}
 

@@ -2,9 +2,8 @@
 -- `root` is what the function computes. `Between` says, in whole numbers, that a pattern is the nearest one; proofs/Nearest.antt shows that `root` gives it and that no other does.
 -- Assumes nothing.
 use Prim.Native.Nat.{ℕ, zero, suc, _+_, _-_, _*_, _/_, _%_, _^_, _<_}
-use mathlib.Core.Bool.{Bool, true, false}
+use mathlib.Core.Bool.{true, false}
 use lib.Dec.{leb}
-use lib.IntN.{ℤ}
 use lib.Ieee.{Float, nan, inf, fin, binary64, size, ofBits, toBits}
 use Rattle.binary64.specs.Number.{pick}
 

@@ -1,11 +1,9 @@
 -- One pass of conjugate gradients (Hestenes and Stiefel 1952, (3:1)) in the order of mesh/laplace.rs, with document 01's ends. Every sum runs left to right from +0.
 -- Definitions only. Assumes nothing.
-use Prim.Native.Nat.{ℕ}
-use mathlib.Core.Bool.{Bool}
-use mathlib.Core.List.{List, [], _∷_, zipWith}
+use mathlib.Core.List.{List, zipWith}
 use lib.ListN.{length, replicate}
-use lib.Ieee.{Float, binary64, ofBits, sub, lt}
-use Rattle.binary64.specs.Arith.{_⊖_, _⊘_}
+use lib.Ieee.{Float, binary64, sub, lt}
+use Rattle.binary64.specs.Arith.{_⊘_}
 use Rattle.binary64.specs.Constants.{plusZero}
 use Rattle.binary64.specs.Number.{pick, absOf}
 use Rattle.binary64.specs.Root.{root}

@@ -1,15 +1,15 @@
 -- What the tests on floats and on kinds tell of the definitions. Assumes nothing.
-use Prim.Native.Nat.{ℕ, zero, suc, _*_, _≤_, _<_}
-use mathlib.Core.Path.{_≡_, refl, sym, ap, ap₂, _∙_, subst}
+use Prim.Native.Nat.{ℕ, zero, suc, _*_, _≤_}
+use mathlib.Core.Path.{_≡_, refl, sym, ap, ap₂, _∙_}
 use mathlib.Core.Bool.{Bool, true, false, not, _&&_, _||_, Bool·beq}
 use native.Mathlib.Omega.{arith}
-use borrow.Author.Tests.{eq-eqb, ne-eqb, not-true, not-false}
+use borrow.Author.Tests.{eq-eqb, ne-eqb}
 use lib.Dec.{eqb}
 use lib.Ieee.{up, down, Float, nan, inf, fin, binary64, ofBits, ofFields, nanBits, isNan, lt, eq, ne, neg}
 use Rattle.binary64.specs.Constants.{plusZero}
 use Rattle.binary64.specs.Number.{pick}
 use Rattle.format.specs.declared.Setting.{Setting}
-use Rattle.format.specs.declared.Setting.the-variants.{Limit, Tolerance, Step, StartX, StartY, Room, Unknown, NotANumber}
+use Rattle.format.specs.declared.Setting.the-variants.{Unknown, NotANumber}
 use Rattle.format.specs.declared.Settings.{Settings}
 use Rattle.format.specs.Refusal.{_then_, realFault, finite, positive, hasReal, hasWhole, missing}
 use Rattle.format.specs.Sheet.{realOf, settingOf}

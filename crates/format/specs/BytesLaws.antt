@@ -2,13 +2,13 @@
 use Prim.Native.Nat.{ℕ, zero, suc, _+_, _-_, _*_, _/_, _%_, _^_, _≤_, _<_, zero-le, suc-le-suc}
 use mathlib.Core.Path.{_≡_, refl, sym, ap, ap₂, _∙_, subst}
 use mathlib.Core.List.{List, [], _∷_, _++_, append-assoc}
-use native.Mathlib.Nat.{add-zero, zero-add, suc-add, one-mul, mul-zero, mul-suc, pow-zero, pow-suc, one-le-pow, le-of-suc-le-suc, mul-comm, mod-lt, div-add-mod', div-lt-iff-lt-mul}
+use native.Mathlib.Nat.{zero-add, suc-add, one-mul, mul-zero, pow-zero, pow-suc, one-le-pow, le-of-suc-le-suc, div-lt-iff-lt-mul}
 use native.Mathlib.Numerals.{add-one, add-two, add-three}
 use native.Mathlib.Omega.{arith}
 use lib.Dec.{lit<}
-use lib.Arith.{digits-div, digits-mod, lt-one}
-use lib.ListN.{length, getD, take, drop, length-append, length-drop, List·getD-append}
-use lib.Seq.{getD-drop, drop-at, drop-drop, drop-nil, take-add, drop-cons}
+use lib.Arith.{lt-one}
+use lib.ListN.{length, getD, take, drop, length-append, length-drop}
+use lib.Seq.{getD-drop, drop-at, drop-drop, take-add}
 use Rattle.format.specs.Bytes.{Bytes, number, bytes, numbers, allBytes}
 
 -- every element is below a bound

@@ -1,15 +1,14 @@
 -- Laws of `placed`: one behind the other, lengths, and the front of a list. Assumes nothing.
-use Prim.Native.Nat.{ℕ, zero, suc, _+_, _-_, _*_, _/_, _%_, _≤_, _<_}
-use mathlib.Core.Path.{_≡_, refl, sym, ap, ap₂, _∙_}
+use Prim.Native.Nat.{ℕ, suc, _+_, _-_, _/_, _%_, _≤_, _<_}
+use mathlib.Core.Path.{_≡_, refl, ap, ap₂, _∙_}
 use mathlib.Core.List.{List, [], _∷_, _++_}
-use native.Mathlib.Nat.{add-zero, add-suc, suc-add, zero-add}
+use native.Mathlib.Nat.{add-zero, zero-add}
 use native.Mathlib.Numerals.{add-one, add-two, add-three}
 use native.Mathlib.Omega.{arith}
 use lib.ListN.{length, set, drop, length-set}
 use lib.Seq.{sets, sets-eq}
 use Rattle.format.specs.Place.{placed}
 use Rattle.format.specs.Bytes.{bytes}
-use Rattle.format.specs.BytesLaws.{length-bytes}
 
 pub placed-none : (m : List ℕ) (at : ℕ) → placed m at [] ≡ m
 unfolding placed

@@ -1,6 +1,6 @@
 -- What refuses a sheet's content, by document 01's numbers (Length, writer, program: the table and its Order). A refusal is its number, 0 is none. Definitions only.
 -- Assumes nothing.
-use Prim.Native.Nat.{ℕ, zero, suc, _+_, _-_, _*_, _/_, _^_}
+use Prim.Native.Nat.{ℕ, zero, suc, _+_, _-_, _*_}
 use mathlib.Core.Bool.{Bool, true, false, _&&_, Bool·beq}
 use mathlib.Core.List.{List, [], _∷_, _++_}
 use lib.Dec.{leb, ltb, eqb}

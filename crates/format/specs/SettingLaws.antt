@@ -1,5 +1,5 @@
 -- Section 5: its items and the settings that they say are inverse. Assumes nothing.
-use Prim.Native.Nat.{ℕ, zero, suc, _+_, _*_, _/_, _%_, _^_, _≤_, _<_, zero-le, suc-le-suc}
+use Prim.Native.Nat.{ℕ, _+_, _*_, _/_, _%_, _^_, _≤_, _<_, zero-le, suc-le-suc}
 use mathlib.Core.Path.{_≡_, refl, sym, ap, ap₂, _∙_, subst}
 use mathlib.Core.Bool.{Bool, true, false, not, _&&_}
 use mathlib.Core.List.{List, [], _∷_, _++_, map, append-nil, append-assoc}
@@ -7,7 +7,7 @@ use native.Mathlib.Nat.{div-lt-iff-lt-mul}
 use native.Mathlib.Omega.{arith}
 use borrow.Author.Tests.{ltb-true, lt-ltb, leb-true, eqb-true}
 use lib.Dec.{T, leb, ltb, eqb, lit<}
-use lib.Ieee.{Float, binary64, ofBits, toBits, nanBits, isNan, fits}
+use lib.Ieee.{Float, binary64, ofBits, toBits, nanBits, isNan}
 use lib.Ieee.Bits.{ofBits-toBits, toBits-ofBits, toBits-lt, nanBits-is}
 use lib.ListN.{length, length-append}
 use Rattle.binary64.specs.Number.{pick}
@@ -20,7 +20,7 @@ use Rattle.format.specs.Refusal.{_then_, each, wholeFault, realFault, fi
 use Rattle.format.specs.Sheet.{kindOf, valueOf, itemOf, realOf, settingOf, itemKind, itemSetting, inTurn, noSettings, adding, gathered}
 use Rattle.format.specs.Range.{OfReal, Double}
 use Rattle.format.specs.BytesLaws.{Under, under-nil, under-cons, under-head, under-tail}
-use Rattle.format.specs.RefusalLaws.{Neither, neither, then-none, passes, pick-true, pick-false, Both, both, Proper, proper}
+use Rattle.format.specs.RefusalLaws.{Neither, neither, then-none, passes, pick-true, pick-false, both, proper}
 
 -- ---- one item, from its number and back
 

@@ -13,7 +13,7 @@ use Rattle.format.specs.declared.Setting.{Setting}
 use Rattle.format.specs.declared.Setting.the-variants.{Limit, Tolerance, Step, StartX, StartY, Room, Unknown, NotANumber}
 use Rattle.format.specs.Bytes.{number, bytes, numbers, allBytes}
 use Rattle.format.specs.Content.{Content, vertexCount, triangleCount, maxVertices, maxTriangles, maxSettings}
-use Rattle.format.specs.Refusal.{_then_, each, over, unlike, vertexFault, neighbourFault, tagFault, coordinate, coordinateFault, settingFault, present, missing}
+use Rattle.format.specs.Refusal.{_then_, each, over, unlike, vertexFault, neighbourFault, tagFault, coordinateFault, settingFault, present, missing}
 
 -- ---- a setting is a kind byte and 8 value bytes, so a number of 9 bytes
 

@@ -1,19 +1,18 @@
 -- What it tells that a sheet, or a content, is not refused: the links of `faultOf` and of `refusalOf`, one by one. Assumes nothing.
-use Prim.Native.Nat.{ℕ, zero, suc, _+_, _-_, _*_, _/_, _%_, _^_, _≤_, _<_, zero-le, suc-le-suc}
-use mathlib.Core.Path.{_≡_, refl, sym, ap, ap₂, _∙_, subst}
-use mathlib.Core.Bool.{Bool, true, false}
-use mathlib.Core.List.{List, [], _∷_, _++_, map}
+use Prim.Native.Nat.{ℕ, zero, suc, _+_, _-_, _*_, _≤_}
+use mathlib.Core.Path.{_≡_, refl, ap₂, _∙_}
+use mathlib.Core.List.{List, map}
 use native.Mathlib.Omega.{arith}
 use borrow.Author.Tests.{eqb-true, eq-eqb}
 use lib.Dec.{eqb}
 use lib.ListN.{length, drop, length-append, length-map, length-drop}
 use lib.Seq.{drop-drop}
-use lib.Ieee.{Float, binary64, ofBits, toBits}
+use lib.Ieee.{binary64, ofBits, toBits}
 use Rattle.binary64.specs.Number.{pick}
-use Rattle.format.specs.Bytes.{number, numbers}
+use Rattle.format.specs.Bytes.{numbers}
 use Rattle.format.specs.Content.{Content, vertexCount, triangleCount, maxVertices, maxTriangles, maxSettings}
 use Rattle.format.specs.Refusal.{_then_, each, over, unlike, vertexFault, neighbourFault, tagFault, coordinateFault, settingFault, present, missing, refusalOf}
-use Rattle.format.specs.Sheet.{itemOf, section, bytesOf, count, behind, from2, from3, from4, from5, leftover, verticesIn, trianglesIn, neighboursIn, tagsIn, itemsIn, contentOf, inTurn, headFault, verticesFault, trianglesFault, neighboursFault, tagsFault, settingsFault, faultOf, Parsed, accepted, refused, decide, parse}
+use Rattle.format.specs.Sheet.{itemOf, section, bytesOf, count, behind, from2, from3, from4, from5, leftover, verticesIn, trianglesIn, neighboursIn, tagsIn, itemsIn, contentOf, inTurn, headFault, verticesFault, trianglesFault, neighboursFault, tagsFault, settingsFault, faultOf, accepted, refused, decide, parse}
 use Rattle.format.specs.BytesLaws.{length-numbers}
 use Rattle.format.specs.RefusalLaws.{Neither, neither, then-none, passes, pick-true}
 use Rattle.format.specs.SectionLaws.{Head, head-sound, head-none, length-section, over-le, le-over, unlike-eq, eq-unlike}

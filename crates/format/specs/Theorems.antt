@@ -2,16 +2,15 @@
 -- is written as is read as that content (`bytes-parse`). What is accepted meets every range of document 01's section Sheet (`parse-sound`), and what meets them all is
 -- accepted (`parse-complete`, and `bytes-parse` after it).
 -- Assumes nothing.
-use Prim.Native.Nat.{ℕ, zero, suc, _+_, _-_, _*_, _/_, _%_, _^_, _≤_, _<_, zero-le, suc-le-suc}
-use mathlib.Core.Path.{_≡_, refl, sym, ap, ap₂, _∙_, subst, subst₂}
+use Prim.Native.Nat.{ℕ, suc, _+_, _-_, _*_, _^_, _≤_, _<_, zero-le, suc-le-suc}
+use mathlib.Core.Path.{_≡_, refl, sym, ap, ap₂, _∙_, subst}
 use mathlib.Core.Bool.{Bool, true, false, _&&_, Bool·beq}
 use mathlib.Core.Logic.{_⊎_, inl, inr}
 use mathlib.Core.List.{List, [], _∷_, _++_, map, append-nil}
-use native.Mathlib.Nat.{le-of-suc-le-suc}
 use native.Mathlib.Omega.{arith}
-use borrow.Author.Tests.{ltb-true, lt-ltb, leb-true, le-leb, eqb-true, eq-eqb, eqb-false, ne-eqb}
-use lib.Dec.{T, leb, ltb, eqb, lit<}
-use lib.ListN.{length, getD, drop, length-map, List·getD-map}
+use borrow.Author.Tests.{ltb-true, lt-ltb, leb-true, le-leb, eqb-true, eq-eqb}
+use lib.Dec.{T, leb, ltb, eqb}
+use lib.ListN.{length, getD, drop, length-map}
 use lib.Ieee.{Float, nan, inf, fin, binary64, ofBits, toBits, nanBits, isNan, lt, le, eq}
 use lib.Ieee.Bits.{ofBits-toBits, toBits-lt, nanBits-is}
 use Rattle.binary64.specs.Constants.{plusZero}
@@ -20,17 +19,17 @@ use Rattle.format.specs.declared.Whole.{Whole}
 use Rattle.format.specs.declared.Real.{Real}
 use Rattle.format.specs.declared.Settings.{Settings}
 use Rattle.format.specs.declared.Setting.{Setting}
-use Rattle.format.specs.declared.Setting.the-variants.{Limit, Tolerance, Step, StartX, StartY, Room, Unknown, NotANumber}
-use Rattle.format.specs.Bytes.{Bytes, number, bytes, numbers, allBytes}
+use Rattle.format.specs.declared.Setting.the-variants.{Limit, Tolerance, Step, StartX, StartY, Room}
+use Rattle.format.specs.Bytes.{Bytes, number, bytes}
 use Rattle.format.specs.Content.{Content, vertexCount, triangleCount, maxVertices, maxTriangles, maxSettings, maxTag, maxLimit, maxRoom, noNeighbour}
 use Rattle.format.specs.Refusal.{_then_, each, over, unlike, vertexFault, neighbourFault, tagFault, realFault, finite, coordinate, positive, coordinateFault, wholeFault, settingFault, wholeSetting, realSetting, present, hasWhole, hasReal, missing, refusalOf}
-use Rattle.format.specs.Sheet.{itemOf, valueOf, itemSetting, inTurn, noSettings, gathered, section, bytesOf, count, behind, from2, from3, from4, from5, leftover, verticesIn, trianglesIn, neighboursIn, tagsIn, itemsIn, contentOf, faultOf, Parsed, accepted, refused, parse}
+use Rattle.format.specs.Sheet.{itemOf, itemSetting, inTurn, noSettings, gathered, section, bytesOf, count, behind, from2, from3, from4, from5, leftover, verticesIn, trianglesIn, neighboursIn, tagsIn, itemsIn, contentOf, accepted, refused, parse}
 use Rattle.format.specs.Range.{Coordinate, Finite, Between, OfWhole, OfReal, InRange, Double, Doubles}
 use Rattle.format.specs.Range as range
 use Rattle.format.specs.BytesLaws.{Under, under-nil, under-cons, under-head, under-tail, bytes-drop, length-numbers, numbers-under}
-use Rattle.format.specs.RefusalLaws.{Neither, neither, then-none, passes, pick-true, pick-false, Both, both, and-true, Proper, proper, real-none, each-at, each-none, each-append}
-use Rattle.format.specs.SectionLaws.{Head, Goes, goes, section-back, bytes-behind, over-le, le-over, unlike-eq, eq-unlike}
-use Rattle.format.specs.SettingLaws.{pattern-back, InTurn, in-turn, settings-back, items-in-turn, present-gathered, present-none, fresh-none, gathered-present, present-rising, present-double, present-few, items-under, whole-le, DoubleIn, AllDouble}
+use Rattle.format.specs.RefusalLaws.{Neither, neither, then-none, passes, pick-true, Both, both, and-true, proper, real-none, each-at, each-none, each-append}
+use Rattle.format.specs.SectionLaws.{Goes, goes, section-back, bytes-behind, over-le, le-over, unlike-eq, eq-unlike}
+use Rattle.format.specs.SettingLaws.{pattern-back, InTurn, in-turn, settings-back, items-in-turn, present-gathered, present-none, fresh-none, gathered-present, present-rising, present-double, present-few, items-under, AllDouble}
 use Rattle.format.specs.SheetLaws.{Clean, clean, refusal-none, Faultless, faultless, fault-none, length-vertices, vertex-count, triangle-count, Reads, reads, accepts}
 
 -- ---- patterns

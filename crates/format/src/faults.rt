@@ -1,8 +1,7 @@
 // What refuses a single number, by document 01's table; 0 is nothing.
 ghost use mathlib.Core.Path.{_≡_};
-ghost use mathlib.Core.Bool.{Bool, true, false, _&&_, not};
+ghost use mathlib.Core.Bool.{not};
 ghost use lib.Ieee.{binary64, nanBits, ofBits};
-ghost use Rattle.binary64.specs.Number.{pick};
 ghost use Rattle.format.specs.Refusal.{finite, positive, realFault, coordinateFault, wholeFault, vertexFault, neighbourFault, tagFault};
 
 // outside its set

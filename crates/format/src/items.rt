@@ -6,7 +6,7 @@ use crate::Whole;
 ghost use mathlib.Core.Path.{_≡_};
 ghost use mathlib.Core.Bool.{Bool·beq};
 ghost use Rattle.format.specs.Refusal.{settingFault, missing, hasWhole, hasReal};
-ghost use Rattle.format.specs.Sheet.{settingOf, realOf, adding, noSettings};
+ghost use Rattle.format.specs.Sheet.{settingOf, adding, noSettings};
 
 // A kind and a value, as section 5 has them.
 pub fn setting_of(kind: u8, value: u64) -> Setting
@@ -58,6 +58,20 @@ pub fn none() -> Settings
     }
 }
 
+// Settings of their six parts.
+fn settings(limit: Whole, tolerance: Real, step: Real, x: Real, y: Real, room: Whole) -> Settings
+    ensures { λ r. ⌜ r ≡ record { limit = limit; tolerance = tolerance; step = step; x = x; y = y; room = room } ⌝ }
+{
+    Settings {
+        limit,
+        tolerance,
+        step,
+        x,
+        y,
+        room,
+    }
+}
+
 // The settings with one more.
 pub fn add(s: Settings, one: Setting) -> Settings
     ensures { λ r. ⌜ r ≡ adding s one ⌝ }
@@ -69,54 +83,12 @@ pub fn add(s: Settings, one: Setting) -> Settings
     let y = s.y;
     let room = s.room;
     match one {
-        Setting::Limit(v) => Settings {
-            limit: Whole::Given(v),
-            tolerance,
-            step,
-            x,
-            y,
-            room,
-        },
-        Setting::Tolerance(v) => Settings {
-            limit,
-            tolerance: Real::Given(v),
-            step,
-            x,
-            y,
-            room,
-        },
-        Setting::Step(v) => Settings {
-            limit,
-            tolerance,
-            step: Real::Given(v),
-            x,
-            y,
-            room,
-        },
-        Setting::StartX(v) => Settings {
-            limit,
-            tolerance,
-            step,
-            x: Real::Given(v),
-            y,
-            room,
-        },
-        Setting::StartY(v) => Settings {
-            limit,
-            tolerance,
-            step,
-            x,
-            y: Real::Given(v),
-            room,
-        },
-        Setting::Room(v) => Settings {
-            limit,
-            tolerance,
-            step,
-            x,
-            y,
-            room: Whole::Given(v),
-        },
+        Setting::Limit(v) => settings(Whole::Given(v), tolerance, step, x, y, room),
+        Setting::Tolerance(v) => settings(limit, Real::Given(v), step, x, y, room),
+        Setting::Step(v) => settings(limit, tolerance, Real::Given(v), x, y, room),
+        Setting::StartX(v) => settings(limit, tolerance, step, Real::Given(v), y, room),
+        Setting::StartY(v) => settings(limit, tolerance, step, x, Real::Given(v), room),
+        Setting::Room(v) => settings(limit, tolerance, step, x, y, Whole::Given(v)),
         Setting::Unknown => s,
         Setting::NotANumber => s,
     }

@@ -4,7 +4,7 @@ use plane::Point;
 ghost use mathlib.Core.Path.{_≡_};
 ghost use Prim.Native.Nat.{_+_, _*_, _≤_, _<_};
 ghost use lib.ListN.{length};
-ghost use Rattle.stretch.specs.Stretch.{part, splice};
+ghost use Rattle.stretch.specs.Stretch.{splice};
 ghost use Rattle.gradient.specs.Gradient.{triangleGradient};
 ghost use Rattle.mesh.specs.Work.{Meshed};
 ghost use Rattle.gradient.specs.Work.{Laid, gradientIn, gradientsIn};

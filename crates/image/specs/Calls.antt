@@ -1,7 +1,7 @@
 -- The four calls as total definitions of the record, the arguments and the lent buffers: the refusal's number, the record and the buffers after the call, whatever they hold.
 -- The order of refusals is document 01's: 10 for n, T, limit or room; 8; every other 10; 9. Definitions only. Assumes nothing.
 use Prim.Native.Nat.{ℕ, _+_, _-_, _*_, min}
-use mathlib.Core.Bool.{Bool, true, false, _&&_, _||_, not}
+use mathlib.Core.Bool.{Bool, true, _&&_, _||_, not}
 use mathlib.Core.Path.{_≡_}
 use mathlib.Core.List.{List, [], _∷_}
 use lib.Dec.{leb, ltb, eqb}
@@ -17,7 +17,6 @@ use Rattle.model.specs.Space.{factor, farthest, floatSpace, wordSpace, pathSpac
 use Rattle.model.specs.Machine.{Call, advance, back, mark, return, most}
 use Rattle.work.specs.declared.Plan.{Plan}
 use Rattle.work.specs.declared.Stand.{Stand}
-use Rattle.work.specs.declared.Kept.{Kept}
 use Rattle.work.specs.declared.Mark.{Mark}
 use Rattle.work.specs.declared.Run.{Run}
 use Rattle.work.specs.Layout.{atNeighbours, atStarts, atColumns}

@@ -8,7 +8,6 @@ use Rattle.binary64.specs.Constants.{plusZero}
 use Rattle.plane.specs.declared.Point.{Point}
 use Rattle.stretch.specs.Stretch.{flat}
 use Rattle.laplace.specs.Placed.{valuesOf, columnsOf, startsOf, padded}
-use Rattle.conjugate.specs.Solver.{Solve}
 use Rattle.format.specs.Content.{Content, vertexCount, triangleCount, limitOf, toleranceOf}
 use Rattle.model.specs.Space.{roomOf, stepOf}
 use Rattle.model.specs.Run.{State, at, matrixOf, rightOf, givenStart}

@@ -5,11 +5,11 @@ use mathlib.Core.Path.{_≡_, refl, sym, ap, _∙_}
 use mathlib.Core.Bool.{Bool, true, false}
 use mathlib.Core.List.{List, [], _∷_, _++_}
 use native.Mathlib.Omega.{arith}
-use lib.Dec.{eqb, leb, ltb}
-use lib.ListN.{length, drop, length-append, length-take}
+use lib.Dec.{eqb, leb}
+use lib.ListN.{length, drop, length-take}
 use lib.Seq.{drop-append-add, drop-drop}
 use lib.Ieee.{Float}
-use borrow.Author.Tests.{leb-false, ltb-false}
+use borrow.Author.Tests.{leb-false}
 use Rattle.binary64.specs.Number.{pick}
 use Rattle.stretch.specs.Stretch.{part, splice}
 use Rattle.stretch.specs.StretchLaws.{length-splice, drop-splice-after}
@@ -23,7 +23,7 @@ use Rattle.pde.specs.declared.Crossing.{Crossing}
 use Rattle.pde.specs.PathLaws.{walked-more, walked-most}
 use Rattle.pde.specs.Path.{added}
 use Rattle.model.specs.Space.{factor}
-use Rattle.model.specs.Run.{rule, nextBy}
+use Rattle.model.specs.Run.{nextBy}
 use Rattle.work.specs.declared.Given.{Given}
 use Rattle.work.specs.declared.Plan.{Plan}
 use Rattle.work.specs.declared.Stand.{Stand}

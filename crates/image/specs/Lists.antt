@@ -1,8 +1,7 @@
 -- A list of calls, each handed what the last returned and left, and lent the front of each buffer. Definitions only. Assumes nothing.
 use Prim.Native.Nat.{ℕ}
 use mathlib.Core.List.{List, [], _∷_, _++_}
-use lib.ListN.{length, take, drop}
-use lib.Ieee.{Float}
+use lib.ListN.{take, drop}
 use Rattle.model.specs.Machine.{Lent, Space}
 use Rattle.work.specs.declared.Run.{Run}
 use Rattle.image.specs.Calls.{Buffers, buffers, fault, runAfter, buffersAfter}

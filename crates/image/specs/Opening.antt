@@ -4,7 +4,7 @@ use Prim.Native.Nat.{ℕ, zero, suc, _+_, _*_, _≤_}
 use mathlib.Core.Path.{_≡_}
 use mathlib.Core.Bool.{Bool}
 use mathlib.Core.List.{List, [], _∷_, _++_}
-use lib.ListN.{length, getD, replicate, drop}
+use lib.ListN.{getD, replicate, drop}
 use lib.Ieee.{Float}
 use Rattle.binary64.specs.Constants.{plusZero}
 use Rattle.binary64.specs.Root.{root}
@@ -24,7 +24,7 @@ use Rattle.work.specs.declared.Plan.{Plan}
 use Rattle.work.specs.Layout.{atRight, atRow, atValues, atKept, atNorms, atNeighbours, atTags, atStarts, atColumns, atHeads, atLinks, atRowColumns, matrixAt}
 use Rattle.work.specs.Memory.{begunAgain, vectorsPut}
 use Rattle.work.specs.declared.Run.{Run}
-use Rattle.model.specs.Machine.{Space, fresh, needs}
+use Rattle.model.specs.Machine.{fresh, needs}
 use Rattle.image.specs.Calls.{Buffers}
 use Rattle.image.specs.CallLaws.{Enough, lacking, asked}
 use Rattle.image.specs.Image.{givenOf, wordsOf, wordsUsed, runOf, image, restOf}

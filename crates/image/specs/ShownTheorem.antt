@@ -26,6 +26,7 @@ use Rattle.model.specs.Machine.{Counter, fresh, Lent}
 use Rattle.work.specs.Layout.{atX, atGradients, atNorms}
 use Rattle.image.specs.Image.{runOf, keptVectors, floatSegments, floatsOf, pathOf, Rest, image}
 use Rattle.image.specs.ImageFacts.{MarkIn, Facts, Parts}
+use Rattle.image.specs.ImageLawsPadded.{length-padded, part-padded}
 use Rattle.image.specs.ListTheorem.{Within, machine-within, list-theorem}
 use Rattle.image.specs.Lists.{Held, performs}
 use Rattle.image.specs.Shown.{lengthsOf, machine, Symmetric, Shown, ListShown}
@@ -33,13 +34,8 @@ use Rattle.image.specs.Shown.{lengthsOf, machine, Symmetric, Shown, List
 -- ---- a list with +0 up to k places
 
 module _ {A : Type 0} (k : ℕ) (z : A) (l : List A) where
-  length-padded : length l ≤ k → length (padded k z l) ≡ k
-  unfolding padded
-  length-padded h = rw (length-append, length-replicate) (omega arith)
-
   padded-filled : part (padded k z l) 0 (length l) ≡ l
-  unfolding padded
-  padded-filled = part-front l (replicate (k - length l) z) 0 (length l) (omega arith) ∙ part-all l (length l) (omega arith)
+  padded-filled = part-padded k z l (length l) refl
 
   padded-beyond : part (padded k z l) (length l) (k - length l) ≡ replicate (k - length l) z
   unfolding padded

@@ -1,23 +1,22 @@
 -- The parts of the assembly one after the other: each writes some of the stretches that lie in a row, so the buffers are always the buffers at entry with a list in each stretch. Assumes nothing.
-use Prim.Native.Nat.{ℕ, zero, suc, _+_, _-_, _*_, _≤_, _<_}
+use Prim.Native.Nat.{ℕ, suc, _+_, _-_, _*_, _≤_, _<_}
 use native.Mathlib.Nat.{le-refl, add-zero}
 use native.Mathlib.Omega.{arith}
 use mathlib.Core.Path.{_≡_, refl, sym, ap, _∙_}
-use mathlib.Core.List.{List, [], _∷_, _++_}
+use mathlib.Core.List.{List, [], _∷_}
 use lib.Ieee.{Float}
-use lib.ListN.{length, getD, set, replicate, length-set, length-replicate}
+use lib.ListN.{length, getD, replicate, length-replicate}
 use Rattle.binary64.specs.Constants.{plusZero}
 use Rattle.stretch.specs.Stretch.{part, splice, Wrote}
 use Rattle.stretch.specs.StretchLaws.{length-part, length-splice, splice-one, splice-part, splice-comm, splice-splice-over, splice-splice-same, part-splice-before, part-splice-after, part-splice-same, getD-splice-before, getD-splice-at}
-use Rattle.sparse.specs.Sparse.{Entry}
 use Rattle.laplace.specs.declared.Places.{Places}
 use Rattle.laplace.specs.Mesh.{heldValue}
-use Rattle.laplace.specs.Assembly.{pushes, rows, rightSide}
-use Rattle.laplace.specs.Matrix.{AllBelow, count, few-entries}
+use Rattle.laplace.specs.Assembly.{rightSide}
+use Rattle.laplace.specs.Matrix.{count, few-entries}
 use Rattle.laplace.specs.Laid.{LaidFloats, LaidWords}
 use Rattle.laplace.specs.Corners.{headsFrom, linksFrom}
 use Rattle.laplace.specs.Placed.{valuesOf, columnsOf, startsFrom, padded}
-use Rattle.laplace.specs.Row.{verticesIn, cornersIn, tagsIn, Linked}
+use Rattle.laplace.specs.Row.{verticesIn, cornersIn, tagsIn}
 use Rattle.laplace.specs.Whole.{pushesIn, rowsFor, most, Ready, RowsPut, Cleared, Assembled}
 use Rattle.laplace.proofs.LawsCorners.{length-heads, length-links}
 use Rattle.laplace.proofs.LawsPlaced.{length-valuesOf, length-columnsOf, length-starts, length-rows, padded-in, length-padded}

@@ -5,12 +5,11 @@ use native.Mathlib.Numerals.{add-one}
 use native.Mathlib.Omega.{arith}
 use mathlib.Core.Path.{_≡_, refl, sym, ap, _∙_}
 use mathlib.Core.Bool.{Bool, true, false}
-use mathlib.Core.Logic.{⊎-elim}
 use mathlib.Core.List.{List, [], _∷_, _++_}
 use lib.Dec.{eqb}
-use lib.ListN.{length, getD, set, drop, replicate, length-append, length-set, length-drop, length-replicate, replicate-append-replicate, List·getD-append, drop-of-length-le}
+use lib.ListN.{length, getD, set, drop, replicate, length-append, length-set, length-replicate, replicate-append-replicate, List·getD-append, drop-of-length-le}
 use lib.Seq.{drop-cons, ext-getD, getD-at, getD-set-same, getD-set-other}
-use borrow.Author.Tests.{eqb-true, eqb-false, eq-eqb, ne-eqb}
+use borrow.Author.Tests.{eqb-true, eqb-false}
 use Rattle.binary64.specs.Number.{pick}
 use Rattle.stretch.specs.Stretch.{part, splice}
 use Rattle.stretch.specs.StretchLaws.{length-part, getD-part, length-splice, splice-cons, splice-nil, splice-splice-same, getD-splice-before, getD-splice-at, set-splice-before, set-splice-in, part-splice-before}

@@ -3,7 +3,7 @@ use Prim.Native.Nat.{ℕ, zero, suc, _+_, _*_, _≤_, _<_}
 use native.Mathlib.Nat.{add-assoc}
 use native.Mathlib.Omega.{arith}
 use mathlib.Core.Path.{_≡_, refl, sym, ap, _∙_}
-use mathlib.Core.List.{List, [], _∷_}
+use mathlib.Core.List.{List, []}
 use lib.Ieee.{Float, nan}
 use lib.ListN.{length, getD}
 use Rattle.binary64.specs.Number.{pick}
@@ -11,10 +11,9 @@ use Rattle.plane.specs.Plane.{point}
 use Rattle.stretch.specs.Stretch.{part}
 use Rattle.stretch.specs.StretchLaws.{length-part, getD-part}
 use Rattle.laplace.specs.declared.element.Stiff.{Stiff}
-use Rattle.laplace.specs.declared.element.Side.{Side}
 use Rattle.laplace.specs.declared.element.Triangle.{Triangle}
 use Rattle.laplace.specs.Mesh.{vertex}
-use Rattle.laplace.specs.Assembly.{Push, nine, trianglePushes}
+use Rattle.laplace.specs.Assembly.{nine, trianglePushes}
 use Rattle.laplace.specs.Matrix.{AllBelow}
 use Rattle.laplace.specs.Element.{stiffIn, triangleOf, Within}
 use Rattle.laplace.specs.Row.{sideOf}

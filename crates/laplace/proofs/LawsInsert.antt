@@ -10,7 +10,7 @@ use lib.Dec.{eqb, ltb}
 use lib.Ieee.{Float, nan}
 use lib.ListN.{length, take, drop, getD, set, length-append, length-set, length-drop, drop-of-length-le}
 use lib.Seq.{drop-cons, take-at, drop-at, length-take-le}
-use borrow.Author.Tests.{ltb-true, ltb-false, lt-ltb, le-ltb, eqb-true, eqb-false, eq-eqb}
+use borrow.Author.Tests.{ltb-true, lt-ltb, le-ltb, eqb-true, eqb-false, eq-eqb}
 use Rattle.binary64.specs.Arith.{_⊕_}
 use Rattle.binary64.specs.Number.{pick}
 use Rattle.stretch.specs.Stretch.{part, splice}

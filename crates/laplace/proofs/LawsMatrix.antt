@@ -1,27 +1,25 @@
 -- A row put behind those before it, and all rows. Assumes nothing.
-use Prim.Native.Nat.{ℕ, zero, suc, _+_, _-_, _*_, _≤_, _<_}
-use native.Mathlib.Nat.{add-assoc}
+use Prim.Native.Nat.{ℕ, suc, _+_, _-_, _*_, _≤_, _<_}
 use native.Mathlib.Numerals.{add-one}
 use native.Mathlib.Omega.{arith}
 use mathlib.Core.Path.{_≡_, refl, sym, ap, _∙_}
-use mathlib.Core.Logic.{_⊎_, inl, inr}
+use mathlib.Core.Logic.{inl, inr}
 use mathlib.Core.List.{List, [], _∷_, _++_}
 use lib.Ieee.{Float}
-use lib.ListN.{length, getD, set, replicate, length-set}
+use lib.ListN.{length, getD, set, length-set}
 use lib.Seq.{set-getD}
 use Rattle.binary64.specs.Constants.{plusZero}
 use Rattle.stretch.specs.Stretch.{part, splice}
 use Rattle.stretch.specs.StretchLaws.{length-part, length-splice, part-zero, splice-nil, splice-one, splice-append, splice-snoc, set-splice-before, part-splice-before, part-splice-after, getD-splice-before, getD-splice-at}
 use Rattle.sparse.specs.Sparse.{Entry, entries}
 use Rattle.laplace.specs.declared.Places.{Places}
-use Rattle.laplace.specs.Assembly.{Push, pushes, row, rows}
+use Rattle.laplace.specs.Assembly.{pushes, row, rows}
 use Rattle.laplace.specs.Matrix.{AllBelow, row-rising, row-below, pushes-below, count, count-append, few-entries}
-use Rattle.laplace.specs.Laid.{LaidFloats, LaidWords}
 use Rattle.laplace.specs.Placed.{valuesIn, columnsIn, valuesOf, columnsOf, startsFrom}
-use Rattle.laplace.specs.Row.{Written, verticesIn, cornersIn, tagsIn, rowIn, Tidy, Building, Linked}
+use Rattle.laplace.specs.Row.{Written, verticesIn, cornersIn, tagsIn, Tidy, Building}
 use Rattle.laplace.specs.Whole.{pushesIn, rowFor, rowsFor, Appends, Appended, Ready, RowPut, RowsPut}
 use Rattle.laplace.proofs.LawsInsert.{length-values, length-columns}
-use Rattle.laplace.proofs.LawsRow.{tidy-none, tidy-few, building-on}
+use Rattle.laplace.proofs.LawsRow.{tidy-none, building-on}
 use Rattle.laplace.proofs.LawsPlaced.{length-valuesOf, length-columnsOf, length-starts, starts-head, length-rows, values-snoc, columns-snoc, starts-snoc, passed-through}
 
 -- ---- one row

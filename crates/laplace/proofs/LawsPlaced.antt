@@ -1,14 +1,13 @@
 -- Laws of rows laid one after the other, and of a stretch that passes through a clear buffer. Assumes nothing.
-use Prim.Native.Nat.{ℕ, zero, suc, _+_, _-_, _≤_, _<_}
-use native.Mathlib.Nat.{add-zero, zero-add, add-assoc}
+use Prim.Native.Nat.{ℕ, zero, suc, _+_, _-_, _≤_}
+use native.Mathlib.Nat.{add-zero}
 use native.Mathlib.Omega.{arith}
 use mathlib.Core.Path.{_≡_, refl, sym, ap, _∙_}
 use mathlib.Core.Logic.{_⊎_, ⊎-elim}
 use mathlib.Core.List.{List, [], _∷_, _++_, append-assoc, append-nil}
-use lib.Ieee.{Float}
 use lib.ListN.{length, getD, replicate, length-append, length-replicate, replicate-append-replicate}
 use Rattle.stretch.specs.Stretch.{part, splice}
-use Rattle.stretch.specs.StretchLaws.{part-part, part-replicate, part-splice-same, splice-part, splice-comm, splice-splice-same, splice-splice-in, splice-replicate, splice-front-all}
+use Rattle.stretch.specs.StretchLaws.{part-part, part-replicate, part-splice-same, splice-part, splice-comm, splice-splice-same, splice-splice-in, splice-front-all}
 use Rattle.sparse.specs.Sparse.{Entry}
 use Rattle.laplace.specs.Assembly.{Push, row, rows}
 use Rattle.laplace.specs.Matrix.{count}

@@ -1,12 +1,11 @@
 -- The right side: a push, the pushes of a triangle, those of all triangles, and the held vertices. Assumes nothing.
-use Prim.Native.Nat.{ℕ, zero, suc, _+_, _-_, _*_, _≤_, _<_}
-use native.Mathlib.Nat.{add-zero}
+use Prim.Native.Nat.{ℕ, suc, _+_, _-_, _*_, _≤_, _<_}
 use native.Mathlib.Numerals.{add-one}
 use native.Mathlib.Omega.{arith}
 use mathlib.Core.Path.{_≡_, refl, sym, ap, _∙_}
-use mathlib.Core.Bool.{Bool, true, false}
+use mathlib.Core.Bool.{true, false}
 use mathlib.Core.List.{List, [], _∷_, _++_}
-use lib.Dec.{eqb, leb}
+use lib.Dec.{eqb}
 use lib.Ieee.{Float, nan}
 use lib.ListN.{length, getD, set, drop, replicate, length-set, length-replicate, drop-of-length-le}
 use lib.Seq.{drop-cons}
@@ -15,7 +14,7 @@ use Rattle.binary64.specs.Arith.{_⊖_, _⊗_}
 use Rattle.binary64.specs.Constants.{plusZero}
 use Rattle.binary64.specs.Number.{pick}
 use Rattle.stretch.specs.Stretch.{part, splice, Wrote}
-use Rattle.stretch.specs.StretchLaws.{length-part, getD-part, part-zero, part-suc, length-splice, splice-part, splice-splice-same, got, kept-before, as-long, getD-splice-after}
+use Rattle.stretch.specs.StretchLaws.{length-part, getD-part, part-zero, part-suc, splice-part, splice-splice-same, got, kept-before, as-long, getD-splice-after}
 use Rattle.stretch.specs.LoopLaws.{write-none, write-step}
 use Rattle.laplace.specs.declared.Places.{Places}
 use Rattle.laplace.specs.declared.element.Side.{Side}

@@ -1,12 +1,12 @@
 -- Entries written one insertion after the other, and what of the mesh stays while a row is built. Assumes nothing.
-use Prim.Native.Nat.{ℕ, zero, suc, _+_, _-_, _*_, _/_, _%_, _≤_, _<_}
+use Prim.Native.Nat.{ℕ, suc, _+_, _-_, _*_, _/_, _%_, _≤_, _<_}
 use native.Mathlib.Nat.{le-refl}
 use native.Mathlib.Omega.{arith}
 use mathlib.Core.Path.{_≡_, refl, sym, ap, _∙_}
 use mathlib.Core.Bool.{Bool, true, false}
-use mathlib.Core.List.{List, [], _∷_, _++_}
+use mathlib.Core.List.{List, [], _∷_}
 use lib.Dec.{eqb, ltb}
-use lib.Ieee.{Float, nan}
+use lib.Ieee.{Float}
 use lib.ListN.{length, getD, set}
 use borrow.Author.Tests.{ne-eqb}
 use Rattle.binary64.specs.Arith.{_⊕_}
@@ -23,7 +23,6 @@ use Rattle.laplace.specs.Mesh.{tagOf, free}
 use Rattle.laplace.specs.Assembly.{Push, insert, inserted, row}
 use Rattle.laplace.specs.Matrix.{Rising, Below, insert-rising, insert-below}
 use Rattle.laplace.specs.Element.{stiffIn, triangleOf, Within}
-use Rattle.laplace.specs.Laid.{LaidFloats, LaidWords}
 use Rattle.laplace.specs.Placed.{valuesIn, columnsIn}
 use Rattle.laplace.specs.Row.{entriesAt, Room, Written, verticesIn, cornersIn, tagsIn, rowIn, Tidy, Building, placed, threePlaced, sideOf, addedBy, added}
 use Rattle.laplace.proofs.LawsInsert.{length-columns, length-values, entries-columns, entries-values, entries-again, length-entries}

@@ -1,7 +1,7 @@
 -- The walk over the corners of a vertex gives its row: the pushes of a triangle in a row are, corner by corner, those of the corners that are its vertex, and heads and links lead from each such corner to the next.
 -- Assumes nothing.
 use Prim.Native.Nat.{ℕ, zero, suc, _+_, _-_, _*_, _/_, _%_, _≤_, _<_}
-use native.Mathlib.Nat.{add-zero, zero-add}
+use native.Mathlib.Nat.{add-zero}
 use native.Mathlib.Numerals.{add-one}
 use native.Mathlib.Omega.{arith}
 use mathlib.Core.Path.{_≡_, refl, sym, ap, _∙_}
@@ -13,7 +13,6 @@ use lib.ListN.{length, getD, drop, length-drop}
 use lib.Seq.{drop-drop, getD-drop}
 use borrow.Author.Tests.{eqb-true}
 use Rattle.binary64.specs.Number.{pick}
-use Rattle.stretch.specs.Stretch.{part, splice}
 use Rattle.stretch.specs.StretchLaws.{length-part, getD-part, splice-nil}
 use Rattle.sparse.specs.Sparse.{Entry}
 use Rattle.laplace.specs.declared.Places.{Places}
@@ -21,12 +20,12 @@ use Rattle.laplace.specs.declared.element.Side.{Side}
 use Rattle.laplace.specs.declared.element.Triangle.{Triangle}
 use Rattle.laplace.specs.Mesh.{free}
 use Rattle.laplace.specs.Assembly.{Push, push, nine, trianglePushes, pushes, insert, inserted}
-use Rattle.laplace.specs.Element.{stiffIn, triangleOf, Within}
-use Rattle.laplace.specs.Corners.{firstFrom, headsFrom, linksFrom}
+use Rattle.laplace.specs.Element.{stiffIn, triangleOf}
+use Rattle.laplace.specs.Corners.{firstFrom}
 use Rattle.laplace.specs.Placed.{valuesIn, columnsIn}
-use Rattle.laplace.specs.Row.{Written, verticesIn, cornersIn, tagsIn, rowIn, Tidy, Building, placed, threePlaced, sideOf, addedBy, added, Linked}
+use Rattle.laplace.specs.Row.{Written, verticesIn, cornersIn, tagsIn, rowIn, Tidy, Building, threePlaced, sideOf, addedBy, added, Linked}
 use Rattle.laplace.proofs.LawsElement.{triangle-pushes, triangle-within}
-use Rattle.laplace.proofs.LawsCorners.{getD-heads, getD-links, below-at}
+use Rattle.laplace.proofs.LawsCorners.{getD-heads, getD-links}
 use Rattle.laplace.proofs.LawsRow.{written-then, words-before, tidy-none, tidy-by, by-longer, tags-stay, corners-stay, vertices-stay, row-read}
 
 -- ---- the walk, over the corners cs, which are numbered from k

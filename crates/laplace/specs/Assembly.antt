@@ -1,15 +1,14 @@
 -- The matrix and the right side of mesh/laplace.rs: the stiffness of the linear triangle (the P1 element), pushed triangle by triangle, and document 01's rule for repeats.
 -- Every operation rounds once, in the order written here. Definitions only. Assumes nothing.
 use Prim.Native.Nat.{ℕ, zero, suc}
-use mathlib.Core.Bool.{Bool, _&&_}
+use mathlib.Core.Bool.{_&&_}
 use mathlib.Core.List.{List, [], _∷_, _++_}
 use lib.Dec.{eqb, leb, ltb}
-use lib.ListN.{length, getD, set, replicate}
-use lib.Ieee.{Float, nan, binary64, ofBits, lt}
+use lib.ListN.{getD, set, replicate}
+use lib.Ieee.{Float, nan, lt}
 use Rattle.binary64.specs.Arith.{_⊕_, _⊖_, _⊗_, _⊘_}
 use Rattle.binary64.specs.Constants.{plusZero, one, half}
 use Rattle.binary64.specs.Number.{pick, absOf}
-use Rattle.plane.specs.declared.Point.{Point}
 use Rattle.sparse.specs.Sparse.{Entry, entry}
 use Rattle.mesh.specs.declared.Slope.{Slope}
 pub use Rattle.mesh.specs.Element.{slope, area2, flat}

@@ -1,6 +1,5 @@
 -- The stiffness of a linear triangle by its corners, as the code holds it. Definitions only. Assumes nothing.
 use Prim.Native.Nat.{ℕ, _+_, _*_, _<_}
-use mathlib.Core.Path.{_≡_}
 use mathlib.Core.List.{List}
 use lib.ListN.{getD}
 use lib.Ieee.{Float, lt}
@@ -8,7 +7,6 @@ use Rattle.binary64.specs.Arith.{_⊘_}
 use Rattle.binary64.specs.Constants.{one}
 use Rattle.binary64.specs.Number.{absOf}
 use Rattle.plane.specs.declared.Point.{Point}
-use Rattle.mesh.specs.declared.Slope.{Slope}
 use Rattle.laplace.specs.declared.element.Stiff.{Stiff}
 use Rattle.laplace.specs.declared.element.Triangle.{Triangle}
 use Rattle.laplace.specs.Mesh.{vertex}

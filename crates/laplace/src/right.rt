@@ -8,7 +8,7 @@ use crate::element::side_of;
 use crate::element::stiff_at;
 use crate::element::triangle_at;
 ghost use mathlib.Core.Path.{_≡_};
-ghost use Prim.Native.Nat.{_+_, _*_, _<_, _≤_};
+ghost use Prim.Native.Nat.{_+_, _*_, _<_};
 ghost use lib.Ieee.{nan};
 ghost use lib.ListN.{length, getD, set};
 ghost use Rattle.binary64.specs.Arith.{_⊖_, _⊗_};

@@ -1,6 +1,6 @@
 -- A mesh by its flat lists, as the sheet and the run's work hold them: vertices x, y; triangles three corners each; neighbours one for each edge; a tag for each vertex.
 -- Edge e joins corner e and corner (e + 1) mod 3 (document 01, Sheet). Definitions only. Assumes nothing.
-use Prim.Native.Nat.{ℕ, _+_, _-_, _*_, _%_, _^_}
+use Prim.Native.Nat.{ℕ, _+_, _-_, _*_, _%_}
 use mathlib.Core.Bool.{Bool, not}
 use mathlib.Core.List.{List}
 use lib.Dec.{eqb}

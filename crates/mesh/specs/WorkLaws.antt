@@ -1,15 +1,13 @@
 -- Laws of a mesh in its buffers: what each accessor reads where its list stands, and the bounds of corners and neighbours.
 -- Assumes nothing.
-use mathlib.Core.Path.{_≡_, refl, sym, ap, _∙_}
+use mathlib.Core.Path.{_≡_, sym, _∙_}
 use mathlib.Core.Logic.{_⊎_, ⊎-elim}
 use mathlib.Core.List.{List}
 use Prim.Native.Nat.{ℕ, _+_, _*_, _≤_, _<_}
 use native.Mathlib.Omega.{arith}
 use lib.ListN.{length, getD}
 use lib.Ieee.{Float, nan}
-use Rattle.plane.specs.declared.Point.{Point}
 use Rattle.plane.specs.Plane.{point}
-use Rattle.stretch.specs.Stretch.{part}
 use Rattle.stretch.specs.StretchLaws.{length-part, getD-part}
 use Rattle.mesh.specs.declared.Mesh.{Mesh}
 use Rattle.mesh.specs.Mesh.{vertex, corner, neighbour, tagOf, noNeighbour}

@@ -7,7 +7,6 @@ use lib.Dec.{ltb, eqb}
 use Rattle.binary64.specs.Number.{pick}
 use Rattle.format.specs.Content.{Content, vertexCount, triangleCount, limitOf}
 use Rattle.model.specs.Space.{roomOf, floatSpace, wordSpace, pathSpace}
-use Rattle.model.specs.Run.{lastPlace}
 
 pub data Call : Type 0 where
   advance : ℕ → Call

@@ -20,7 +20,8 @@ use Rattle.model.specs.Run.{State, Field, Trail, state, noTrail, matrixO
 use Rattle.model.specs.SolvedPlace.{solvedPlace}
 use Rattle.model.specs.PassLaws.{finished-end, unfinished-end, pass-elim, pass-over, pass-solve, pass-begin, pass-cross, solving-on, solving-off, solving-norms, starting-elim, crossing-on, crossing-counts, crossing-points, solving-end, crossing-end}
 use Rattle.model.specs.Sized.{Sized, Vectors}
-use Rattle.model.specs.SizeLaws.{matrix-length, right-length, begun-vectors, solving-vectors, gradients-length, crossing-path-length, crossing-room, WalkIn, crossing-walk, crossing-path, crossing-gradients}
+use Rattle.pde.specs.PathLaws.{Stands}
+use Rattle.model.specs.SizeLaws.{matrix-length, right-length, begun-vectors, solving-vectors, gradients-length, crossing-path-length, crossing-room, crossing-walk, crossing-path, crossing-gradients}
 
 -- ---- places in order
 
@@ -495,8 +496,8 @@ inside c s =
     (λ (q : Point) (t e : ℕ) (h : t < triangleCount c) (k : e ≤ 3). record { triangle = λ (z : 0 < 1). h; edge = k })
     (λ (k : ℕ) (n : 0 < k) (m : k ≤ 9). record { triangle = λ (z : 0 < 0). absurd (omega arith); edge = omega arith }))
     (λ (us : List Float) (t : Trail) (h : 0 < t .walk .points) (ih : Inside (triangleCount c) (t .walk)).
-    let w : WalkIn (triangleCount c) (crossingPass c us t .walk) = crossing-walk c s us t (record { triangle = ih .triangle h; edge = ih .edge }) in
-    record { triangle = λ (z : 0 < crossingPass c us t .walk .points). w .triangle; edge = w .edge })
+    let w : Stands (triangleCount c) (crossingPass c us t .walk) = crossing-walk c s us t (record { triangle-below = ih .triangle h; edge-most = ih .edge }) in
+    record { triangle = λ (z : 0 < crossingPass c us t .walk .points). w .triangle-below; edge = w .edge-most })
 
 pub walk-triangle : (c : Content) → Sized c → (p : ℕ) → 0 < at c p .trail .walk .points → at c p .trail .walk .triangle < triangleCount c
 walk-triangle c s p h = inside c s p .triangle h

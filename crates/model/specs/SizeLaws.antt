@@ -6,15 +6,13 @@ use mathlib.Core.Path.{_≡_, refl, sym, ap, _∙_}
 use mathlib.Core.Logic.{_≢_, ⊎-elim}
 use mathlib.Core.Bool.{Bool, true, false, _&&_, false≢true}
 use mathlib.Core.List.{List, [], _∷_, _++_, zipWith}
-use lib.Dec.{eqb, leb, ltb}
+use lib.Dec.{eqb, leb}
 use lib.ListN.{length, getD, replicate, length-append, length-set, length-replicate}
 use lib.Ieee.{Float, binary64, sub, lt}
-use borrow.Author.Tests.{eqb-false}
 use Rattle.binary64.specs.Arith.{_⊘_}
 use Rattle.binary64.specs.Constants.{plusZero}
 use Rattle.binary64.specs.Number.{pick, absOf}
 use Rattle.binary64.specs.Root.{root}
-use Rattle.plane.specs.declared.Point.{Point}
 use Rattle.stretch.specs.Vec.{dot, plus, less}
 use Rattle.stretch.specs.VecLaws.{length-zip}
 use Rattle.sparse.specs.Sparse.{Entry, matVec}
@@ -25,13 +23,8 @@ use Rattle.laplace.specs.Assembly.{Push, pushes, row, rows, lowered, coupled, a
 use Rattle.conjugate.specs.Solver as Solver
 use Rattle.conjugate.specs.Solver.{Solve, Turn, halted, reached, moved, begun}
 use Rattle.gradient.specs.Gradient.{gradients}
-use Rattle.pde.specs.declared.Beyond.{Beyond}
-use Rattle.pde.specs.declared.Crossing.{Crossing}
-use Rattle.pde.specs.declared.Walk.{Walk}
-use Rattle.pde.specs.Crossing.{crossing}
-use Rattle.pde.specs.Bounds.{BeyondIn, CrossingIn, Neighbouring, crossing-in}
-use Rattle.pde.specs.PathLaws.{gone-points, walked-more}
-use Rattle.pde.specs.Path.{ended, gone, adds, added, walked}
+use Rattle.pde.specs.Bounds.{Neighbouring, crossing-in}
+use Rattle.pde.specs.PathLaws.{Stands, walked-more, walked-most, walked-stands}
 use Rattle.format.specs.Content.{Content, vertexCount, triangleCount, limitOf, toleranceOf}
 use Rattle.format.specs.Range.{InRange, OfWhole, Between}
 use Rattle.format.specs.declared.Whole.{Whole}
@@ -40,7 +33,6 @@ use Rattle.format.specs.Content.{wholeOr}
 use Rattle.model.specs.Space.{roomOf, stepOf, factor}
 use Rattle.model.specs.Run.{Field, Trail, rule, matrixOf, rightOf, solved, solving, crossed, crossingPass}
 use Rattle.model.specs.Sized.{Sized, Vectors}
-use Rattle.model.specs.PassLaws.{walked-elim}
 
 -- ---- what every accepted sheet has
 
@@ -172,14 +164,7 @@ crossing-path-length c us t h = rw (length-append, h) (walked-more (roomOf c) (e
 
 pub crossing-room : (c : Content) (us : List Float) (t : Trail) → t .walk .points ≤ roomOf c → crossingPass c us t .walk .points ≤ roomOf c
 unfolding crossingPass crossed
-crossing-room c us t h =
-    walked-elim (λ (v : Walk). v .points ≤ roomOf c) (roomOf c) (eqb (t .crossings + 1) (factor * triangleCount c)) (t .walk) x
-    (λ (k : ℕ) (n : 0 < k) (m : k ≤ 7). h)
-    (λ (q : Point) (n : ℕ) (b : Beyond) (e : x ≡ Crossing.Leaves q n b) (k : t .walk .points + adds x ≤ roomOf c).
-    omega (arith, gone-points (eqb (t .crossings + 1) (factor * triangleCount c)) (t .walk) q b (adds x)))
-  where
-    x : Crossing
-    x = crossing rule (c .vertices) (c .triangles) (c .neighbours) (triangleCount c) us (t .gradients) (stepOf c) (t .walk .position) (t .walk .triangle) (t .walk .edge)
+crossing-room c us t h = walked-most (roomOf c) (eqb (t .crossings + 1) (factor * triangleCount c)) (t .walk) _ h
 
 -- ---- the triangle that a crossing leads into
 
@@ -189,33 +174,11 @@ neighbouring c s t e h k n =
     let next = getD (c .neighbours) (3 * t + e) 0 in
     ⊎-elim (λ (z : next ≡ noNeighbour). absurd (n z)) (λ (z : next < triangleCount c). z) (s .inRange (3 * t + e) (omega (arith, s .neighbours)))
 
--- a walk is in one of the triangles, which it entered by an edge or none
-pub record WalkIn (T : ℕ) (w : Walk) : Type 0 where
-  pub triangle : w .triangle < T
-  pub edge : w .edge ≤ 3
-
-gone-in : (T : ℕ) (last : Bool) (w : Walk) (q : Point) (b : Beyond) (k : ℕ) → WalkIn T w → BeyondIn T b → WalkIn T (gone last w q b k)
-gone-in T last w q Beyond.Border k h b = record { triangle = h .triangle; edge = h .edge }
-gone-in T last w q Beyond.Unnamed k h b = record { triangle = h .triangle; edge = h .edge }
-gone-in T last w q Beyond.Above k h b = record { triangle = h .triangle; edge = h .edge }
-gone-in T last w q (Beyond.Into t e) k h b = record { triangle = b .0; edge = omega arith }
-
-pub crossing-walk : (c : Content) → Sized c → (us : List Float) (t : Trail) → WalkIn (triangleCount c) (t .walk) → WalkIn (triangleCount c) (crossingPass c us t .walk)
+pub crossing-walk : (c : Content) → Sized c → (us : List Float) (t : Trail) → Stands (triangleCount c) (t .walk) → Stands (triangleCount c) (crossingPass c us t .walk)
 unfolding crossingPass crossed
 crossing-walk c s us t h =
-    walked-elim (WalkIn (triangleCount c)) (roomOf c) last (t .walk) x
-    (λ (k : ℕ) (n : 0 < k) (m : k ≤ 7). record { triangle = h .triangle; edge = h .edge })
-    (λ (q : Point) (n : ℕ) (b : Beyond) (e : x ≡ Crossing.Leaves q n b) (k : t .walk .points + adds x ≤ roomOf c).
-    gone-in (triangleCount c) last (t .walk) q b (adds x) h (rw e at inside))
-  where
-    last : Bool
-    last = eqb (t .crossings + 1) (factor * triangleCount c)
-
-    x : Crossing
-    x = crossing rule (c .vertices) (c .triangles) (c .neighbours) (triangleCount c) us (t .gradients) (stepOf c) (t .walk .position) (t .walk .triangle) (t .walk .edge)
-
-    inside : CrossingIn (triangleCount c) x
-    inside = crossing-in rule (c .vertices) (c .triangles) (c .neighbours) (triangleCount c) us (neighbouring c s) (t .gradients) (stepOf c) (t .walk .position) (t .walk .triangle) (t .walk .edge) (h .triangle)
+    walked-stands (roomOf c) (eqb (t .crossings + 1) (factor * triangleCount c)) (triangleCount c) (t .walk) _
+    (crossing-in rule (c .vertices) (c .triangles) (c .neighbours) (triangleCount c) us (neighbouring c s) (t .gradients) (stepOf c) (t .walk .position) (t .walk .triangle) (t .walk .edge) (h .triangle-below)) h
 
 -- the path after a crossing begins with the path before it
 pub crossing-path : (c : Content) (us : List Float) (t : Trail) → (more : List Float) × (crossingPass c us t .path ≡ t .path ++ more)

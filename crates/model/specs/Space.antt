@@ -1,13 +1,8 @@
 -- What a sheet's content says of a run: its counts, settings and document 01's space rule. Definitions only. Assumes nothing.
 use Prim.Native.Nat.{ℕ, _+_, _*_}
-use mathlib.Core.List.{List}
 use lib.Ieee.{Float}
 use Rattle.binary64.specs.Constants.{plusZero}
-use Rattle.plane.specs.declared.Point.{Point}
-use Rattle.plane.specs.Plane.{point}
-use Rattle.format.specs.declared.Whole.{Whole}
-use Rattle.format.specs.declared.Real.{Real}
-use Rattle.format.specs.Content.{Content, vertexCount, triangleCount, wholeOr, realOr, limitOf, toleranceOf}
+use Rattle.format.specs.Content.{Content, wholeOr, realOr}
 
 abbrev pub roomOf : Content → ℕ
 roomOf c = wholeOr 0 (c .settings .room)

@@ -24,15 +24,14 @@ use Rattle.laplace.specs.Placed.{valuesOf, columnsOf, startsOf, padded}
 use Rattle.conjugate.specs.Solver.{Solve, begun}
 use Rattle.format.specs.Content.{Content, vertexCount, triangleCount, limitOf}
 use Rattle.format.specs.Range.{InRange}
-use Rattle.model.specs.Space.{roomOf}
 use Rattle.model.specs.Run.{place0, matrixOf, rightOf}
 use Rattle.model.specs.Sized.{Sized, Vectors}
 use Rattle.model.specs.SizeLaws.{sized, matrix-length, right-length, begun-vectors}
 use Rattle.work.specs.Layout.{atRight, atRow, atValues, atKept, atNorms, atNeighbours, atTags, atStarts, atColumns, atHeads, atLinks, atRowColumns}
-use Rattle.work.specs.Memory.{begunAgain, vectorsPut}
-use Rattle.image.specs.Image.{planOf, floatsOf, wordsOf, pathOf, floatsUsed, wordsUsed}
+use Rattle.work.specs.Memory.{begunAgain}
+use Rattle.image.specs.Image.{planOf, floatsOf, wordsOf, floatsUsed, wordsUsed}
 use Rattle.image.specs.ImageLawsLengths.{length-kept-values, length-kept-columns, length-row-starts}
-use Rattle.image.specs.ImageLawsPadded.{length-padded, padded-nil, padded-more}
+use Rattle.image.specs.ImageLawsPadded.{padded-nil, padded-more}
 use Rattle.image.specs.ImageLawsRead.{matrix-read}
 use Rattle.image.specs.ImageLawsSegments.{zeros, segments, Laid, laid-x, laid-r, laid-p, laid-product, laid-kept, laid-gradients, part-right, part-values, put-x, put-r, put-p, put-product, put-norms}
 use Rattle.image.specs.ImageLawsSound.{below-each}

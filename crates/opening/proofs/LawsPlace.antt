@@ -1,17 +1,17 @@
 -- Opening step by step: what each step asks of the buffers follows from an accepted sheet and the space rule, and what the last one leaves is the run's image at place 0.
 -- Assumes nothing.
 use Prim.Native.Nat.{ℕ, _+_, _*_, _≤_}
-use mathlib.Core.Path.{_≡_, refl, sym, ap, _∙_}
+use mathlib.Core.Path.{_≡_, sym, ap, _∙_}
 use mathlib.Core.Bool.{true, false}
 use mathlib.Core.Logic.{inl}
-use mathlib.Core.List.{List, [], _∷_, _++_}
+use mathlib.Core.List.{List, []}
 use mathlib.Core.Option.{none}
 use native.Mathlib.Omega.{arith}
 use lib.ListN.{length, drop, take, set, replicate, length-replicate, length-drop}
 use lib.Ieee.{Float}
 use Rattle.binary64.specs.Constants.{plusZero}
 use Rattle.binary64.specs.Root.{root}
-use Rattle.stretch.specs.Stretch.{part, splice}
+use Rattle.stretch.specs.Stretch.{splice}
 use Rattle.stretch.specs.StretchLaws.{part-zero, part-take, splice-one, splice-is}
 use Rattle.sparse.specs.declared.Csr.{Csr}
 use Rattle.mesh.specs.Mesh.{heldValue}
@@ -20,23 +20,21 @@ use Rattle.laplace.specs.Assembly.{rightSide}
 use Rattle.laplace.specs.Laid.{LaidFloats, LaidWords}
 use Rattle.laplace.specs.Row.{tagsIn}
 use Rattle.laplace.specs.Whole.{pushesIn, rowsFor, Assembled}
-use Rattle.laplace.specs.Placed.{padded}
 use Rattle.conjugate.specs.declared.Vectors.{Vectors}
 use Rattle.conjugate.specs.Placed as Solving
 use Rattle.conjugate.specs.Placed.{placed, startOf}
 use Rattle.format.specs.Bytes.{Bytes}
-use Rattle.format.specs.Content.{Content, vertexCount, triangleCount, limitOf}
-use Rattle.format.specs.Range.{InRange}
+use Rattle.format.specs.Content.{Content, vertexCount, triangleCount}
 use Rattle.format.specs.Sheet.{accepted, parse, contentOf}
 use Rattle.format.specs.Theorems.{parse-sound}
 use Rattle.sheet.specs.declared.Header.{Header}
 use Rattle.sheet.specs.declared.Checked.{Checked}
-use Rattle.sheet.specs.Answer.{headerOf, checkedOf}
+use Rattle.sheet.specs.Answer.{checkedOf}
 use Rattle.sheet.specs.ItemLaws.{IsAccepted, is-accepted, is-refused, Within, header-within}
 use Rattle.model.specs.Space.{roomOf}
 use Rattle.model.specs.Run.{at, place0}
 use Rattle.model.specs.SizeLaws.{sized}
-use Rattle.model.specs.Machine.{fresh, needs}
+use Rattle.model.specs.Machine.{needs}
 use Rattle.work.specs.declared.Plan.{Plan}
 use Rattle.work.specs.declared.Run.{Run}
 use Rattle.work.specs.Layout.{atKept, atNorms, matrixAt, vectorsAt}
@@ -45,13 +43,13 @@ use Rattle.work.specs.Record.{newRun}
 use Rattle.image.specs.declared.Opened.{Opened}
 use Rattle.image.specs.Accepted.{ready}
 use Rattle.image.specs.Calls.{Buffers, buffers}
-use Rattle.image.specs.CallLaws.{Counted, Enough, lacking, lacking-none}
-use Rattle.image.specs.Image.{planOf, floatsOf, wordsOf, pathOf, floatsUsed, wordsUsed, runOf, image, restOf}
+use Rattle.image.specs.CallLaws.{Counted, lacking, lacking-none}
+use Rattle.image.specs.Image.{planOf, floatsOf, wordsOf, pathOf, floatsUsed, wordsUsed, runOf, image}
 use Rattle.image.specs.ImageLawsLengths.{length-words}
 use Rattle.image.specs.ImageLawsPadded.{padded-nil}
 use Rattle.image.specs.ImageLawsSound.{words-sound}
 use Rattle.image.specs.ListTheorem.{counted}
-use Rattle.image.specs.Opening.{planBy, placesAt, Read, Fits, Loaded, LaidOut, assembledFloats, meshFloats, meshWords, Begins, noneKept, begunFloats, Begun, lacks, Suffices, Stands}
+use Rattle.image.specs.Opening.{planBy, placesAt, Read, Fits, Loaded, LaidOut, Begins, noneKept, begunFloats, Begun, lacks, Suffices, Stands}
 use Rattle.image.specs.Replay.{Opens}
 use Rattle.image.specs.ReplayLaws.{opens-refused, opens-short, opens-open}
 use Rattle.image.specs.Shown.{lengthsOf}

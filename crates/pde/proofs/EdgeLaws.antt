@@ -1,11 +1,10 @@
 -- Laws of the searches for an edge: what is left of each from a triangle or an edge on, a turn with and without a match, and their ends. w is the answer of the whole search. Assumes nothing.
-use mathlib.Core.Path.{_≡_, refl, sym, ap, _∙_}
+use mathlib.Core.Path.{_≡_, refl}
 use mathlib.Core.Bool.{true, false}
 use mathlib.Core.List.{List}
 use Prim.Native.Nat.{ℕ, _+_, _≤_, _<_}
 use native.Mathlib.Numerals.{add-one}
 use native.Mathlib.Omega.{arith}
-use lib.Dec.{eqb}
 use borrow.Author.Tests.{eq-eqb, ne-eqb}
 use lib.Ieee.{Float, inf, div, ofBits}
 use Rattle.binary64.specs.Arith.{_⊘_}

@@ -1,8 +1,8 @@
 -- Laws of the writing of a crossing's points: a turn of the loop, the point of an end, and the two ways out of a triangle. Assumes nothing.
-use mathlib.Core.Path.{_≡_, refl, sym, ap, _∙_}
+use mathlib.Core.Path.{_≡_, refl, sym}
 use mathlib.Core.Bool.{Bool, false, true}
-use mathlib.Core.List.{List, [], _∷_, _++_}
-use Prim.Native.Nat.{ℕ, zero, suc, _+_, _-_, _*_, _≤_, _<_}
+use mathlib.Core.List.{List, []}
+use Prim.Native.Nat.{ℕ, suc, _+_, _-_, _*_, _≤_, _<_}
 use native.Mathlib.Nat.{add-zero}
 use native.Mathlib.Numerals.{add-one}
 use native.Mathlib.Omega.{arith}
@@ -21,7 +21,6 @@ use Rattle.pde.specs.declared.Crossing.{Crossing}
 use Rattle.pde.specs.declared.Walk.{Walk}
 use Rattle.pde.specs.Path.{partWay, along, between, closing, closes, ended, gone, added, walked}
 use Rattle.pde.specs.PathLaws.{length-along, length-between}
-use Rattle.pde.specs.Work.{Roomy}
 
 -- ---- the points between
 

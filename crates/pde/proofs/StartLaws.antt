@@ -2,13 +2,13 @@
 -- w is the answer of the whole search. Assumes nothing.
 use mathlib.Core.Path.{_≡_, refl, sym, ap, _∙_}
 use mathlib.Core.Bool.{true, false}
-use mathlib.Core.List.{List, [], _∷_}
-use Prim.Native.Nat.{ℕ, suc, _+_, _≤_, _<_}
+use mathlib.Core.List.{List, _∷_}
+use Prim.Native.Nat.{ℕ, _+_, _≤_, _<_}
 use native.Mathlib.Omega.{arith}
 use native.Mathlib.Numerals.{add-one}
 use lib.ListN.{length, drop, getD, drop-of-length-le}
 use lib.Seq.{drop-cons}
-use lib.Ieee.{Float, nan, inf, lt}
+use lib.Ieee.{Float, nan, lt}
 use Rattle.binary64.specs.Arith.{_⊘_}
 use Rattle.binary64.specs.Constants.{plusZero, one}
 use Rattle.plane.specs.declared.Point.{Point}
@@ -18,7 +18,7 @@ use Rattle.pde.specs.Search.{firstOf}
 use Rattle.pde.specs.SearchLaws.{leftOf, left-all, left-skip, left-found, left-done}
 use Rattle.pde.specs.declared.Start.{Start}
 use Rattle.pde.specs.declared.Start.the-variants.{At, Nothing}
-use Rattle.pde.specs.Start.{noEdge, orElse, contains, containedIn, triangleContaining, isInner, middle, innerEdge, innerEdgeOf, firstInner, leastFrom, leastVertex, has, centroid, centroidWith, firstWith, pickStart}
+use Rattle.pde.specs.Start.{noEdge, orElse, contains, containedIn, triangleContaining, isInner, middle, innerEdge, innerEdgeOf, firstInner, leastFrom, leastVertex, has, centroid, centroidWith, firstWith}
 use Rattle.pde.proofs.EdgeLaws.{infinite}
 
 -- ---- a search for a start

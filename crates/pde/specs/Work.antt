@@ -1,19 +1,16 @@
 -- Where the field and the gradients stand among the floats, a crossing of what stands there, and what it makes of the lent path. Definitions only. Assumes nothing.
-use mathlib.Core.Path.{_≡_}
-use mathlib.Core.Bool.{Bool}
 use mathlib.Core.List.{List}
 use Prim.Native.Nat.{ℕ, _+_, _*_, _≤_}
 use lib.ListN.{length}
 use lib.Ieee.{Float}
 use Rattle.plane.specs.declared.Point.{Point}
-use Rattle.stretch.specs.Stretch.{part, splice}
+use Rattle.stretch.specs.Stretch.{part}
 use Rattle.mesh.specs.declared.Mesh.{Mesh}
 use Rattle.mesh.specs.Work.{verticesOf, trianglesOf, neighboursOf, Meshed}
 use Rattle.pde.specs.declared.Rule.{Rule}
 use Rattle.pde.specs.declared.Crossing.{Crossing}
 use Rattle.pde.specs.declared.Walk.{Walk}
 use Rattle.pde.specs.Crossing.{crossing}
-use Rattle.pde.specs.Path.{added, walked}
 
 -- the field's n numbers start at u
 pub record Fielded (floats : List Float) (words : List ℕ) (m : Mesh) (u : ℕ) : Type 0 where

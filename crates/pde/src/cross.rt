@@ -11,7 +11,7 @@ ghost use mathlib.Core.Path.{_≡_};
 ghost use Prim.Native.Nat.{_+_, _*_, _<_, _≤_};
 ghost use lib.ListN.{length};
 ghost use Rattle.mesh.specs.Mesh as Lists;
-ghost use Rattle.mesh.specs.Work.{verticesOf, trianglesOf, neighboursOf, Linked, Meshed};
+ghost use Rattle.mesh.specs.Work.{verticesOf, trianglesOf, neighboursOf, Linked};
 ghost use Rattle.pde.specs.Bounds.{SideIn};
 ghost use Rattle.pde.specs.Crossing as Crossings;
 ghost use Rattle.pde.specs.Work.{Fielded, Graded, fieldOf, gradientsOf, crossingIn};

@@ -2,7 +2,6 @@
 use image::Answer;
 use image::Opened;
 use work::Run;
-ghost use mathlib.Core.Path.{_≡_};
 ghost use Prim.Native.Nat.{_+_, _*_, _≤_};
 ghost use lib.ListN.{length};
 ghost use Rattle.image.specs.Calls.{buffers, Does};

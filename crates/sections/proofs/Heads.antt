@@ -1,5 +1,5 @@
 -- A section before its items are read: what each test tells of `headFault`, and that a count within a range is one that document 01's rule takes. Assumes nothing.
-use Prim.Native.Nat.{ℕ, zero, suc, _+_, _*_, _≤_, _<_}
+use Prim.Native.Nat.{ℕ, _+_, _*_, _≤_, _<_}
 use mathlib.Core.Path.{_≡_, refl, sym, ap, ap₂, _∙_}
 use mathlib.Core.Bool.{Bool, true, false, _&&_}
 use mathlib.Core.List.{List}
@@ -7,12 +7,11 @@ use native.Mathlib.Nat.{le-antisymm}
 use native.Mathlib.Omega.{arith}
 use borrow.Author.Tests.{le-leb, lt-leb, leb-true, leb-false, eq-eqb, ne-eqb}
 use lib.Dec.{leb, eqb}
-use lib.ListN.{length, drop}
+use lib.ListN.{length}
 use Rattle.binary64.specs.Number.{pick}
 use Rattle.format.specs.Refusal.{_then_, over, unlike}
 use Rattle.format.specs.Sheet.{count, cut, headFault}
 use Rattle.format.specs.RefusalLaws.{pick-true, pick-false, then-first, then-second, and-true}
-use Rattle.format.specs.SectionLaws.{Head, head-sound}
 use Rattle.sections.specs.Steps.{within}
 
 cut-no : (k : ℕ) (s : List ℕ) → k ≤ length s → cut k s ≡ 0

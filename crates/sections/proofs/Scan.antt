@@ -1,12 +1,12 @@
 -- A loop that tests the numbers of a section, each in turn, through the part behind its count: before it, one number more, a refusal, the end. For any test and any width.
 -- Assumes nothing.
-use Prim.Native.Nat.{ℕ, zero, suc, _+_, _*_, _≤_, _<_}
-use mathlib.Core.Path.{_≡_, refl, sym, ap, _∙_}
+use Prim.Native.Nat.{ℕ, _+_, _*_, _≤_, _<_}
+use mathlib.Core.Path.{_≡_, sym, ap, _∙_}
 use mathlib.Core.List.{List, map}
 use native.Mathlib.Nat.{one-mul}
 use native.Mathlib.Omega.{arith}
 use lib.ListN.{length, getD, drop}
-use lib.Ieee.{Float, binary64, ofBits}
+use lib.Ieee.{binary64, ofBits}
 use Rattle.format.specs.Bytes.{number, numbers}
 use Rattle.format.specs.Refusal.{each, coordinateFault}
 use Rattle.format.specs.BytesLaws.{length-numbers, getD-numbers, number-drop}

@@ -3,13 +3,13 @@
 use format::Setting;
 use format::Settings;
 ghost use mathlib.Core.Path.{_≡_};
-ghost use Prim.Native.Nat.{ℕ, _+_, _*_, _≤_, _<_, _^_};
+ghost use Prim.Native.Nat.{_+_, _*_, _≤_, _<_, _^_};
 ghost use mathlib.Core.List.{map};
 ghost use lib.ListN.{length};
 ghost use lib.Ieee.{binary64, ofBits};
 ghost use Rattle.format.specs.Bytes.{number, numbers};
 ghost use Rattle.format.specs.Refusal.{each, coordinateFault, vertexFault, neighbourFault, tagFault};
-ghost use Rattle.format.specs.Sheet.{headFault, verticesFault, trianglesFault, neighboursFault, tagsFault, settingsFault, itemsIn};
+ghost use Rattle.format.specs.Sheet.{headFault, verticesFault, trianglesFault, neighboursFault, tagsFault};
 ghost use Rattle.sections.specs.Steps.{within, itemsRead, meshFault, settingsRead};
 
 // The settings of section 5, or what refuses them.

@@ -1,18 +1,17 @@
 -- The whole check: its steps are the links of `faultOf`, its places those of the sections, and its answer that of `parse`. Assumes nothing.
 use Prim.Native.Nat.{ℕ, zero, suc, _+_, _*_, _-_, _≤_}
-use mathlib.Core.Path.{_≡_, refl, sym, ap, ap₂, _∙_, subst}
-use mathlib.Core.Bool.{Bool, true, false}
+use mathlib.Core.Path.{_≡_, refl, sym, ap, ap₂, _∙_}
 use mathlib.Core.List.{List, map}
 use native.Mathlib.Omega.{arith}
 use borrow.Author.Tests.{eq-eqb, ne-eqb}
 use lib.Dec.{eqb}
-use lib.ListN.{length, take, drop, length-drop}
+use lib.ListN.{length, drop, length-drop}
 use Rattle.binary64.specs.Number.{pick}
 use Rattle.format.specs.declared.Settings.{Settings}
 use Rattle.format.specs.Bytes.{number}
-use Rattle.format.specs.Content.{Content, maxVertices, maxTriangles, maxSettings}
+use Rattle.format.specs.Content.{maxVertices, maxTriangles, maxSettings}
 use Rattle.format.specs.Refusal.{_then_, over, unlike, missing}
-use Rattle.format.specs.Sheet.{count, behind, from2, from3, from4, from5, leftover, itemsIn, itemSetting, noSettings, gathered, contentOf, verticesFault, trianglesFault, neighboursFault, tagsFault, settingsFault, faultOf, Parsed, accepted, refused, decide, parse}
+use Rattle.format.specs.Sheet.{count, behind, from2, from3, from4, from5, leftover, itemsIn, itemSetting, noSettings, gathered, contentOf, verticesFault, trianglesFault, neighboursFault, tagsFault, settingsFault, faultOf, refused, decide, parse}
 use Rattle.format.specs.RefusalLaws.{Neither, neither, then-assoc, then-second, refused-first, decided-second, pick-true, pick-false}
 use Rattle.format.specs.SectionLaws.{Head, over-le, unlike-eq}
 use Rattle.format.specs.SheetLaws.{vertices-head, triangles-head, neighbours-head, tags-head, settings-head, vertex-count, triangle-count, length-behind, behind-drop}

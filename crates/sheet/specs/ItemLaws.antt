@@ -1,27 +1,23 @@
 -- Of an accepted sheet the header's places are within it, and the items read there are those of its content. Assumes nothing.
-use Prim.Native.Nat.{ℕ, zero, suc, _+_, _*_, _-_, _/_, _^_, _≤_, _<_}
+use Prim.Native.Nat.{ℕ, zero, suc, _+_, _*_, _-_, _/_, _≤_, _<_}
 use mathlib.Core.Path.{_≡_, refl, sym, ap, ap₂, _∙_, subst}
-use mathlib.Core.Bool.{Bool, true, false}
 use mathlib.Core.List.{List, map}
 use native.Mathlib.Omega.{arith}
 use borrow.Author.Tests.{lt-ltb}
-use lib.Dec.{ltb}
 use lib.ListN.{length, getD, drop, length-drop, length-map, List·getD-map}
-use lib.Seq.{drop-drop, getD-drop}
-use lib.Ieee.{Float, binary64, ofBits, nanBits, isNan}
+use lib.Seq.{drop-drop}
+use lib.Ieee.{Float, binary64, ofBits, isNan}
 use lib.Ieee.Bits.{nanBits-is}
 use Rattle.binary64.specs.Constants.{plusZero}
-use Rattle.binary64.specs.Number.{pick}
 use Rattle.plane.specs.Plane.{point}
-use Rattle.plane.specs.declared.Point.{Point}
 use Rattle.format.specs.Bytes.{number, numbers}
-use Rattle.format.specs.Content.{Content, vertexCount, triangleCount, vertexOf, cornerOf, neighbourOf, tagOf}
-use Rattle.format.specs.Refusal.{each, coordinate, coordinateFault, over, unlike}
-use Rattle.format.specs.Sheet.{count, behind, from2, from3, from4, from5, verticesIn, trianglesIn, neighboursIn, tagsIn, contentOf, faultOf, Parsed, accepted, refused, decide, parse}
+use Rattle.format.specs.Content.{Content, vertexCount, triangleCount, vertexOf, tagOf}
+use Rattle.format.specs.Refusal.{each, coordinate, coordinateFault}
+use Rattle.format.specs.Sheet.{count, behind, from2, from3, from4, contentOf, faultOf, Parsed, accepted, refused, decide, parse}
 use Rattle.format.specs.BytesLaws.{length-numbers, getD-numbers, number-drop}
 use Rattle.format.specs.RefusalLaws.{pick-true, pick-false, Proper, proper, each-at}
-use Rattle.format.specs.SectionLaws.{Head, over-le, unlike-eq}
-use Rattle.format.specs.SheetLaws.{Faultless, faultless, vertex-count, triangle-count, length-vertices, length-behind, behind-drop, Reads, reads}
+use Rattle.format.specs.SectionLaws.{unlike-eq}
+use Rattle.format.specs.SheetLaws.{Faultless, faultless, vertex-count, triangle-count, length-behind, behind-drop, reads}
 use Rattle.sheet.specs.declared.Header.{Header}
 use Rattle.sheet.specs.declared.Checked.{Checked}
 use Rattle.sheet.specs.Answer.{headerOf, checkedOf}

@@ -2,7 +2,7 @@
 use Prim.Native.Nat.{ℕ}
 use mathlib.Core.Path.{_≡_, refl}
 use mathlib.Core.Bool.{true}
-use mathlib.Core.List.{List, [], _∷_, _++_}
+use mathlib.Core.List.{List, [], _∷_}
 use lib.Ieee.{Float, nan, inf, binary64, ofBits, toBits}
 use Rattle.text.specs.Text.{glyph, digits, placesBy, places, decimal, hexOf, word, numbers, line, singles, pairs, endLine, refusedText, runText}
 

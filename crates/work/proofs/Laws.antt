@@ -15,7 +15,6 @@ use Rattle.pde.specs.declared.Crossing.{Crossing}
 use Rattle.pde.specs.Path.{added}
 use Rattle.stretch.specs.Stretch.{splice}
 use Rattle.stretch.specs.StretchLaws.{splice-one, splice-snoc}
-use Rattle.model.specs.Run.{rule}
 use Rattle.work.specs.declared.Gives.{Gives}
 use Rattle.work.specs.declared.Plan.{Plan}
 use Rattle.work.specs.declared.Stand.{Stand}

@@ -1,13 +1,12 @@
 -- Passes on a front alone lead where passes on the whole buffers lead, whatever the buffers hold: a pass keeps the front's length, and what it gives is written behind the front.
 -- Assumes nothing.
 use Prim.Native.Nat.{ℕ, zero, suc, _+_, _-_, _≤_}
-use mathlib.Core.Path.{_≡_, refl, sym, ap, ap₂, _∙_}
+use mathlib.Core.Path.{_≡_, refl, sym, ap, _∙_}
 use mathlib.Core.List.{List, [], _∷_, _++_}
 use native.Mathlib.Omega.{arith}
 use native.Mathlib.Nat.{add-zero, add-suc}
 use lib.ListN.{length, take, drop}
 use lib.Ieee.{Float}
-use Rattle.stretch.specs.Stretch.{splice}
 use Rattle.stretch.specs.StretchLaws.{length-splice, take-splice-before}
 use Rattle.conjugate.specs.Solver.{Turn, halted, reached, moved}
 use Rattle.pde.specs.declared.Start.{Start}
@@ -16,10 +15,9 @@ use Rattle.work.specs.declared.Gives.{Gives}
 use Rattle.work.specs.declared.Plan.{Plan}
 use Rattle.work.specs.declared.Stand.{Stand}
 use Rattle.work.specs.Layout.{atNorms}
-use Rattle.work.specs.Memory.{Stepped, stepped, solvedStep, setOut, solveStep, graded, startBy, beginStep, crossStep, stepOn, Work, work, floatsGiven, frontOf, beyondFront, once, goes, Dry, dry}
-use Rattle.work.specs.Dry.{dryOf, dryAt, Dries, gain}
-use Rattle.work.specs.Ready.{Ready, Standing}
-use Rattle.work.specs.StandingLaws.{step-elim, step-over, step-standing, step-place, step-forth, turnOf}
+use Rattle.work.specs.Memory.{Stepped, solvedStep, setOut, solveStep, graded, startBy, beginStep, crossStep, stepOn, Work, floatsGiven, frontOf, beyondFront, once, goes, Dry, dry}
+use Rattle.work.specs.Dry.{dryOf, dryAt, gain}
+use Rattle.work.specs.StandingLaws.{step-elim, step-over, step-forth, turnOf}
 
 -- ---- a pass keeps the front's length
 

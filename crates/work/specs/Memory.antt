@@ -1,17 +1,14 @@
 -- What a pass, passes in a row and the way to another place do to the lent buffers, whatever they hold. Definitions only. Assumes nothing.
 use Prim.Native.Nat.{ℕ, zero, suc, _+_, _-_, _*_}
-use mathlib.Core.Bool.{Bool, true, false, _&&_, not}
+use mathlib.Core.Bool.{_&&_, not}
 use mathlib.Core.List.{List, [], _∷_, _++_}
-use mathlib.Core.Path.{_≡_}
 use lib.Dec.{leb, eqb}
-use lib.ListN.{length, take, drop, replicate}
+use lib.ListN.{take, drop, replicate}
 use lib.Ieee.{Float}
 use Rattle.binary64.specs.Constants.{plusZero}
 use Rattle.binary64.specs.Number.{pick}
 use Rattle.binary64.specs.Root.{root}
-use Rattle.plane.specs.declared.Point.{Point}
 use Rattle.stretch.specs.Stretch.{part, splice}
-use Rattle.sparse.specs.Sparse.{Entry}
 use Rattle.sparse.specs.Stored.{matrix}
 use Rattle.mesh.specs.Element.{flat}
 use Rattle.conjugate.specs.Solver as Solver

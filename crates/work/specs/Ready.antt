@@ -16,7 +16,7 @@ use Rattle.work.specs.declared.Kept.{Kept}
 use Rattle.work.specs.declared.Mark.{Mark}
 use Rattle.work.specs.declared.Step.{Step}
 use Rattle.work.specs.Layout.{atNorms, matrixAt, meshAt}
-use Rattle.work.specs.Memory.{Stepped, stepOn, Work, work, once, goes, Dry, dry, seek, frontOf}
+use Rattle.work.specs.Memory.{stepOn, Work, work}
 
 -- the plan's counts, and the indices in the words
 pub record Ready (plan : Plan) (words : List ℕ) : Type 0 where

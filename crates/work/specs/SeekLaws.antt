@@ -1,12 +1,12 @@
 -- The way to a place starts at or before it, with the counts of a place in their ranges; so it comes to the place or to the path's end before it. Assumes nothing.
-use Prim.Native.Nat.{ℕ, zero, suc, _+_, _-_, _*_, _≤_, _<_}
-use mathlib.Core.Path.{_≡_, refl, sym, ap, _∙_}
+use Prim.Native.Nat.{ℕ, zero, suc, _+_, _-_, _≤_}
+use mathlib.Core.Path.{_≡_, refl}
 use mathlib.Core.Bool.{Bool, true, false, _&&_, not}
 use mathlib.Core.List.{List}
 use native.Mathlib.Omega.{arith}
 use lib.Dec.{eqb, leb}
 use lib.Ieee.{Float}
-use borrow.Author.Tests.{eqb-true, eqb-false, leb-true, leb-false, le-leb, not-true, not-false}
+use borrow.Author.Tests.{eqb-false, leb-true, le-leb, not-true}
 use Rattle.binary64.specs.Number.{pick}
 use Rattle.model.specs.SolvedPlace.{solvedAt}
 use Rattle.work.specs.declared.Plan.{Plan}
@@ -14,7 +14,7 @@ use Rattle.work.specs.declared.Stand.{Stand}
 use Rattle.work.specs.declared.Kept.{Kept}
 use Rattle.work.specs.declared.Mark.{Mark}
 use Rattle.work.specs.declared.Origin.{Origin}
-use Rattle.work.specs.Memory.{Work, work, pathless, fromMark, originOf, toSolved, toKept, toZero, fromOrigin, goes, seek}
+use Rattle.work.specs.Memory.{Work, pathless, fromMark, originOf, toSolved, toKept, toZero, fromOrigin, goes, seek}
 use Rattle.work.specs.Ready.{Ready, Standing, Keeping, MarkKeeping}
 use Rattle.work.specs.StandingLaws.{goes-standing, goes-place}
 

@@ -15,7 +15,6 @@ use pde::Walk;
 ghost use mathlib.Core.Path.{_≡_};
 ghost use Prim.Native.Nat.{_+_, _*_, _≤_, _<_};
 ghost use lib.Dec.{leb, eqb};
-ghost use lib.ListN.{length};
 ghost use Rattle.binary64.specs.Number.{pick};
 ghost use Rattle.work.specs.Memory as Memory;
 ghost use Rattle.work.specs.Ready.{Steps};

@@ -1,12 +1,10 @@
 -- The steps of the writer: what each setting is refused by, and what a section puts down. Assumes nothing.
 use Prim.Native.Nat.{ℕ, zero, suc, _+_, _*_, _-_, _/_, _%_, _≤_, _<_, zero-le}
 use mathlib.Core.Path.{_≡_, refl, sym, ap, ap₂, _∙_}
-use mathlib.Core.Bool.{Bool, true, false}
-use mathlib.Core.List.{List, [], _∷_, _++_, map, append-nil, append-assoc, map-append, map-id}
+use mathlib.Core.List.{List, [], _∷_, _++_, map, append-nil, map-append, map-id}
 use native.Mathlib.Numerals.{add-one}
 use native.Mathlib.Omega.{arith}
-use lib.Dec.{eqb}
-use lib.ListN.{length, getD, set, take, drop, length-append, length-map}
+use lib.ListN.{length, getD, set, take, length-append, length-map}
 use lib.Seq.{take-suc, take-all, length-take-le}
 use lib.Ieee.{Float, binary64, toBits}
 use Rattle.format.specs.declared.Whole.{Whole}

@@ -1,17 +1,17 @@
 -- The whole writing: the steps of the refusal are the links of `refusalOf`, and the sections lie one behind the other. Assumes nothing.
 use Prim.Native.Nat.{ℕ, _+_, _*_, _/_, _≤_}
-use mathlib.Core.Path.{_≡_, refl, sym, ap, ap₂, _∙_}
-use mathlib.Core.List.{List, [], _∷_, _++_, map}
+use mathlib.Core.Path.{_≡_, sym, ap, _∙_}
+use mathlib.Core.List.{List, _++_, map}
 use native.Mathlib.Omega.{arith}
 use lib.ListN.{length, length-map}
 use lib.Ieee.{Float, binary64, toBits}
 use Rattle.format.specs.declared.Settings.{Settings}
-use Rattle.format.specs.Content.{Content, vertexCount, triangleCount, maxVertices, maxTriangles}
+use Rattle.format.specs.Content.{Content, vertexCount, triangleCount, maxTriangles}
 use Rattle.format.specs.Place.{placed}
-use Rattle.format.specs.Refusal.{_then_, each, over, unlike, coordinateFault, vertexFault, neighbourFault, tagFault, settingFault, present, missing, refusalOf}
+use Rattle.format.specs.Refusal.{_then_, each, over, settingFault, present, missing, refusalOf}
 use Rattle.format.specs.Sheet.{itemOf, section, bytesOf}
 use Rattle.format.specs.PlaceLaws.{placed-next}
-use Rattle.format.specs.RefusalLaws.{Neither, neither, then-assoc}
+use Rattle.format.specs.RefusalLaws.{neither, then-assoc}
 use Rattle.format.specs.SectionLaws.{over-le, length-section}
 use Rattle.writing.specs.Write.{contentBy, verticesRefusal, trianglesRefusal, neighboursRefusal, tagsRefusal, meshRefusal}
 

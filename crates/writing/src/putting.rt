@@ -5,11 +5,11 @@ use format::Settings;
 use format::Whole;
 ghost use mathlib.Core.Path.{_≡_};
 ghost use mathlib.Core.List.{map};
-ghost use Prim.Native.Nat.{ℕ, _+_, _*_, _≤_, _<_, _^_};
+ghost use Prim.Native.Nat.{_+_, _*_, _≤_, _<_};
 ghost use lib.ListN.{length};
 ghost use lib.Ieee.{binary64, toBits};
 ghost use Rattle.format.specs.Place.{placed};
-ghost use Rattle.format.specs.Refusal.{present, hasWhole, hasReal};
+ghost use Rattle.format.specs.Refusal.{present};
 ghost use Rattle.format.specs.Sheet.{section, bytesOf, itemOf};
 ghost use Rattle.writing.specs.Write.{contentBy, patternOf, slotItem, oneIf, PutsItem, Fits};
 

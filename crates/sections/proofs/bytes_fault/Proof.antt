@@ -2,8 +2,7 @@
 -- Assumes nothing.
 use borrow.Author.Needs.{needs}
 use native.Mathlib.Omega.{arith}
-use mathlib.Core.Path.{_≡_, refl, sym, ap, ap₂, _∙_, subst}
-use Prim.Native.Nat.{ℕ, _*_, _-_}
+use Prim.Native.Nat.{_-_}
 use Rattle.sections.proofs.Scan.{Scanned, scan-none, scan-more, scan-until, scan-all, number-one}
 use Rattle.format.specs.Refusal.{tagFault}
 use Rattle.sections.proofs.bytes_fault.Statement.{statement}

@@ -2,8 +2,8 @@
 -- Assumes nothing.
 use borrow.Author.Needs.{needs}
 use native.Mathlib.Omega.{arith}
-use mathlib.Core.Path.{_≡_, refl, sym, ap, ap₂, _∙_, subst}
-use Prim.Native.Nat.{ℕ, _*_, _-_}
+use mathlib.Core.Path.{sym, _∙_}
+use Prim.Native.Nat.{_*_, _-_}
 use Rattle.sections.proofs.Scan.{Scanned, scan-none, scan-more, scan-until, scan-all, patternFault, patterns}
 use Rattle.sections.proofs.coordinates_fault.Statement.{statement}
 use Rattle.sections.proofs.coordinates_fault.Tie as tie

@@ -2,10 +2,9 @@
 -- Assumes nothing.
 use borrow.Author.Needs.{needs}
 use native.Mathlib.Omega.{arith}
-use mathlib.Core.Path.{_≡_, refl, sym, ap, ap₂, _∙_, subst}
-use Prim.Native.Nat.{ℕ, _*_, _-_}
+use Prim.Native.Nat.{_-_}
 use Rattle.sections.proofs.Scan.{Scanned, scan-none, scan-more, scan-until, scan-all}
-use Rattle.format.specs.Refusal.{vertexFault, neighbourFault, tagFault}
+use Rattle.format.specs.Refusal.{neighbourFault}
 use Rattle.sections.proofs.edges_fault.Statement.{statement}
 use Rattle.sections.proofs.edges_fault.Tie as tie
 

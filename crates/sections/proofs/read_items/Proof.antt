@@ -2,8 +2,8 @@
 -- Assumes nothing.
 use borrow.Author.Needs.{needs}
 use native.Mathlib.Omega.{arith}
-use mathlib.Core.Path.{_≡_, refl, sym, ap, ap₂, _∙_, subst}
-use Prim.Native.Nat.{ℕ, _+_, _*_, _-_, _<_}
+use mathlib.Core.Path.{refl}
+use Prim.Native.Nat.{_*_, _-_}
 use lib.ListN.{getD}
 use Rattle.sections.proofs.Reading.{Reading, Item, read-none, read-all, read-low, read-fault, read-more}
 use Rattle.sections.proofs.read_items.Statement.{statement}

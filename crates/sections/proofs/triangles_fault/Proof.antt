@@ -2,15 +2,14 @@
 -- Assumes nothing.
 use borrow.Author.Needs.{needs}
 use native.Mathlib.Omega.{arith}
-use mathlib.Core.Path.{_≡_, refl, sym, ap, ap₂, _∙_, subst}
-use Prim.Native.Nat.{ℕ, _*_, _-_, _≤_}
-use mathlib.Core.List.{List, map}
+use mathlib.Core.Path.{_≡_, sym, ap, ap₂, _∙_}
+use Prim.Native.Nat.{ℕ, _*_, _-_}
+use mathlib.Core.List.{List}
 use lib.ListN.{length, take, drop, length-drop}
-use lib.Ieee.{binary64, ofBits}
 use Rattle.format.specs.Bytes.{number, numbers}
-use Rattle.format.specs.Refusal.{each, over, unlike, coordinateFault, vertexFault, neighbourFault, tagFault}
-use Rattle.format.specs.Sheet.{headFault, trianglesFault}
-use Rattle.format.specs.SectionLaws.{Head, head-sound, over-le, unlike-eq}
+use Rattle.format.specs.Refusal.{each, vertexFault}
+use Rattle.format.specs.Sheet.{trianglesFault}
+use Rattle.format.specs.SectionLaws.{Head, head-sound}
 use Rattle.sections.specs.Steps.{within}
 use Rattle.sections.proofs.Heads.{over-rule}
 use Rattle.format.specs.SectionLaws.{part-from}

@@ -2,7 +2,6 @@
 -- Assumes nothing.
 use borrow.Author.Needs.{needs}
 use native.Mathlib.Omega.{arith}
-use mathlib.Core.Path.{_≡_, refl, sym, ap, ap₂, _∙_, subst}
 use Rattle.sheet.proofs.Check.{finish-left, finish-missing, finish-whole}
 use Rattle.sheet.proofs.finish.Statement.{statement}
 use Rattle.sheet.proofs.finish.Tie as tie

@@ -2,7 +2,7 @@
 -- Assumes nothing.
 use borrow.Author.Needs.{needs}
 use native.Mathlib.Omega.{arith}
-use mathlib.Core.List.{List, [], _∷_, _++_}
+use mathlib.Core.List.{[], _∷_, _++_}
 use Rattle.text.specs.PutLaws.{left-all, left-more, left-last}
 use Rattle.text.specs.Text.{newline, word}
 use Rattle.text.specs.TextLaws.{length-word, length-end, end-is}

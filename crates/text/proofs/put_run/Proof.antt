@@ -2,7 +2,7 @@
 -- Assumes nothing.
 use borrow.Author.Needs.{needs}
 use native.Mathlib.Omega.{arith}
-use mathlib.Core.List.{List, [], _∷_, _++_}
+use mathlib.Core.List.{_++_}
 use Rattle.text.specs.PutLaws.{left-all, left-more, left-last, printed}
 use Rattle.text.specs.Text.{singles, pairs}
 use Rattle.text.specs.TextLaws.{run-sizes, run-room, run-is}

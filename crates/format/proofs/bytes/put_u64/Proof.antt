@@ -1,8 +1,7 @@
 -- `format::bytes::put_u64` meets its contract: eight bytes are four and four, by `bytes-eight`, put down one behind the other.
 -- Assumes nothing.
 use borrow.Author.Needs.{needs}
-use native.Mathlib.Omega.{arith}
-use mathlib.Core.Path.{_≡_, sym, ap, _∙_}
+use mathlib.Core.Path.{sym, ap, _∙_}
 use mathlib.Core.List.{List}
 use Prim.Native.Nat.{ℕ, _+_, _%_, _/_}
 use Rattle.format.specs.Bytes.{bytes}

@@ -1,12 +1,11 @@
 -- `format::faults::coordinate_fault` meets its contract: its tests are those of `coordinateFault`, a NaN's first.
 -- Assumes nothing.
-use borrow.Author.Needs.{needs}
-use mathlib.Core.Path.{_≡_, ap, ap₂}
+use mathlib.Core.Path.{ap, ap₂}
 use mathlib.Core.Bool.{Bool, true, false, _&&_}
 use lib.Ieee.{le}
 use Rattle.format.specs.Content.{greatestCoordinate}
-use Rattle.format.specs.Refusal.{finite, coordinate, positive, realFault, settingFault, missing, hasWhole, hasReal}
-use Rattle.format.proofs.Laws.{real-nan, real-is, infinity, finite-is, positive-is, kind-is, kind-real, kind-nan, kind-unknown}
+use Rattle.format.specs.Refusal.{coordinate}
+use Rattle.format.proofs.Laws.{real-nan, real-is}
 use Rattle.format.proofs.faults.coordinate_fault.Statement.{statement}
 use Rattle.format.proofs.faults.coordinate_fault.Tie as tie
 

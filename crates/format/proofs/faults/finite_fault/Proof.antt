@@ -1,11 +1,10 @@
 -- `format::faults::finite_fault` meets its contract: a finite number is strictly between the infinities.
 -- Assumes nothing.
-use borrow.Author.Needs.{needs}
-use mathlib.Core.Path.{_≡_, sym, ap, ap₂, _∙_}
+use mathlib.Core.Path.{ap, ap₂, _∙_}
 use mathlib.Core.Bool.{Bool, true, false, _&&_}
-use lib.Ieee.{Float, nanBits, lt, neg, inf, binary64, ofBits}
-use Rattle.format.specs.Refusal.{finite, coordinate, positive, realFault, settingFault, missing, hasWhole, hasReal}
-use Rattle.format.proofs.Laws.{real-nan, real-is, infinity, finite-is, positive-is, kind-is, kind-real, kind-nan, kind-unknown}
+use lib.Ieee.{nanBits, lt, neg}
+use Rattle.format.specs.Refusal.{finite}
+use Rattle.format.proofs.Laws.{real-nan, real-is, infinity, finite-is}
 use Rattle.format.proofs.faults.finite_fault.Statement.{statement}
 use Rattle.format.proofs.faults.finite_fault.Tie as tie
 

@@ -1,6 +1,5 @@
 -- `format::faults::nan_pattern` meets its contract: a NaN's pattern is above that of an infinity, by `nanBits-above`.
 -- Assumes nothing.
-use borrow.Author.Needs.{needs}
 use mathlib.Core.Path.{sym}
 use lib.Ieee.{binary64}
 use lib.Ieee.Bits.{nanBits-above}

@@ -1,6 +1,5 @@
 -- `format::faults::neighbour_fault` meets its contract: −1 is the number that is tested first, and else the test is that of a triangle number.
 -- Assumes nothing.
-use borrow.Author.Needs.{needs}
 use native.Mathlib.Omega.{arith}
 use Prim.Native.Nat.{_≤_, _<_}
 use borrow.Author.Tests.{eq-eqb, ne-eqb, lt-ltb, le-ltb}

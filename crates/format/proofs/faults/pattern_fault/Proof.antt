@@ -1,7 +1,7 @@
 -- `format::faults::pattern_fault` meets its contract: a NaN's pattern is told before it is read, and `ofBits` of it is a NaN.
 -- Assumes nothing.
 use borrow.Author.Needs.{needs}
-use mathlib.Core.Path.{_≡_, sym, ap, _∙_, subst}
+use mathlib.Core.Path.{sym, _∙_, subst}
 use mathlib.Core.Bool.{Bool, not}
 use lib.Dec.{T}
 use lib.Ieee.{binary64, ofBits}

@@ -1,8 +1,7 @@
 -- `format::faults::step_fault` meets its contract: a number that is finite is a step where it is above 0, by `positive-is`.
 -- Assumes nothing.
 use borrow.Author.Needs.{needs}
-use mathlib.Core.Path.{_≡_, refl, sym, ap, ap₂, _∙_, subst}
-use Prim.Native.Nat.{ℕ}
+use mathlib.Core.Path.{_≡_, sym, ap, _∙_}
 use mathlib.Core.Bool.{Bool}
 use lib.Ieee.{lt}
 use Rattle.binary64.specs.Constants.{plusZero}

@@ -1,6 +1,5 @@
 -- `format::faults::tag_fault` meets its contract: the test is that of `tagFault`.
 -- Assumes nothing.
-use borrow.Author.Needs.{needs}
 use borrow.Author.Tests.{le-leb, lt-leb}
 use Rattle.format.proofs.faults.tag_fault.Statement.{statement}
 use Rattle.format.proofs.faults.tag_fault.Tie as tie

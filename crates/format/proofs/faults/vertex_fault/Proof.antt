@@ -1,6 +1,5 @@
 -- `format::faults::vertex_fault` meets its contract: the test is that of `vertexFault`.
 -- Assumes nothing.
-use borrow.Author.Needs.{needs}
 use borrow.Author.Tests.{lt-ltb, le-ltb}
 use Rattle.format.proofs.faults.vertex_fault.Statement.{statement}
 use Rattle.format.proofs.faults.vertex_fault.Tie as tie

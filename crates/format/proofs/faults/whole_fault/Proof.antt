@@ -1,6 +1,5 @@
 -- `format::faults::whole_fault` meets its contract: the two tests are those of `wholeFault`.
 -- Assumes nothing.
-use borrow.Author.Needs.{needs}
 use borrow.Author.Tests.{le-leb, lt-leb}
 use Rattle.format.proofs.faults.whole_fault.Statement.{statement}
 use Rattle.format.proofs.faults.whole_fault.Tie as tie

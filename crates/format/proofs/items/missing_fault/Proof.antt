@@ -1,8 +1,8 @@
 -- `format::items::missing_fault` meets its contract: its tests are those of `missing`.
 -- Assumes nothing.
 use borrow.Author.Needs.{needs}
-use mathlib.Core.Path.{_≡_, refl, sym, ap, ap₂, _∙_, subst}
-use mathlib.Core.Bool.{Bool, true, false, not, _&&_, Bool·beq}
+use mathlib.Core.Path.{sym, _∙_}
+use mathlib.Core.Bool.{true, false}
 use Rattle.format.proofs.Laws.{missing-is, no-step, no-room}
 use Rattle.format.proofs.items.missing_fault.Statement.{statement}
 use Rattle.format.proofs.items.missing_fault.Tie as tie

@@ -1,7 +1,7 @@
 -- `format::items::setting_fault` meets its contract: each case is that of `settingFault`.
 -- Assumes nothing.
 use borrow.Author.Needs.{needs}
-use mathlib.Core.Path.{_≡_, sym, ap, _∙_}
+use mathlib.Core.Path.{sym, ap, _∙_}
 use Rattle.format.specs.Refusal.{settingFault}
 use Rattle.format.proofs.items.setting_fault.Statement.{statement}
 use Rattle.format.proofs.items.setting_fault.Tie as tie

@@ -2,9 +2,8 @@
 -- Assumes nothing.
 use borrow.Author.Needs.{needs}
 use native.Mathlib.Omega.{arith}
-use mathlib.Core.Path.{_≡_, refl, sym, ap, ap₂, _∙_, subst}
+use mathlib.Core.Path.{_≡_, refl, sym, _∙_, subst}
 use mathlib.Core.Bool.{Bool, not}
-use Prim.Native.Nat.{ℕ, _≤_}
 use lib.Dec.{T}
 use Rattle.format.specs.declared.Setting.the-variants.{Tolerance, Step, StartX, StartY}
 use Rattle.format.specs.Sheet.{settingOf}

@@ -3,8 +3,8 @@
 use Rattle.format.specs.declared.Real.{Real}
 use Rattle.format.proofs.Laws.{beq-true}
 use borrow.Author.Needs.{needs}
-use mathlib.Core.Path.{_≡_, refl, sym, ap, ap₂, _∙_, subst}
-use mathlib.Core.Bool.{Bool, true, false, not, _&&_, Bool·beq}
+use mathlib.Core.Path.{sym, ap, _∙_}
+use mathlib.Core.Bool.{Bool·beq}
 use Rattle.format.specs.Refusal.{hasReal}
 use Rattle.format.proofs.items.together.Statement.{statement}
 use Rattle.format.proofs.items.together.Tie as tie

@@ -1,5 +1,4 @@
 -- `append` meets its contract: each call writes one stretch, and none of them what a later one reads. Assumes nothing.
-use mathlib.Core.Logic.{inl, inr}
 use native.Mathlib.Omega.{arith}
 use borrow.Author.Needs.{needs}
 use Rattle.laplace.proofs.matrix.append.Statement.{statement}

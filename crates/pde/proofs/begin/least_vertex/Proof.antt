@@ -1,5 +1,5 @@
 -- `begin::least_vertex` meets its contract: before the number i, the least of those that are left, from the best so far, is the least of all. Assumes nothing.
-use mathlib.Core.Path.{_≡_, sym, _∙_}
+use mathlib.Core.Path.{_≡_}
 use Prim.Native.Nat.{_-_, _≤_}
 use native.Mathlib.Omega.{arith}
 use borrow.Author.Needs.{needs}

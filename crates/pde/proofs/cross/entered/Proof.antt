@@ -1,5 +1,5 @@
 -- `cross::entered` meets its contract: `entered` picks by the same test of the neighbour, and the sides are what the searches ensure, so they point into the mesh. Assumes nothing.
-use mathlib.Core.Path.{sym, _∙_}
+use mathlib.Core.Path.{_∙_}
 use borrow.Author.Needs.{needs}
 use Rattle.mesh.specs.WorkLaws.{neighbour-below}
 use Rattle.pde.proofs.LeavingLaws.{entered-cut, entered-back}

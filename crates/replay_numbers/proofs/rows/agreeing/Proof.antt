@@ -1,7 +1,6 @@
 -- `rows::agreeing` meets its contract. The loop's invariant: `at` is within the table, and no more rows agree than patterns were passed.
 -- The measure is what is left of the table. Assumes nothing.
 use Prim.Native.Nat.{_≤_, _-_}
-use native.Mathlib.Omega.{arith}
 use lib.ListN.{length}
 use borrow.Author.Needs.{needs}
 use Rattle.replay_numbers.proofs.rows.agreeing.Statement.{statement}

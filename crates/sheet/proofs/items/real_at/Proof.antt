@@ -1,10 +1,9 @@
 -- `sheet::items::real_at` meets its contract: a NaN's pattern is told before it is read.
 -- Assumes nothing.
 use borrow.Author.Needs.{needs}
-use mathlib.Core.Path.{_≡_, refl, sym, ap, ap₂, _∙_, subst}
+use mathlib.Core.Path.{sym, ap, _∙_, subst}
 use Rattle.format.specs.RefusalLaws.{pick-true, pick-false}
 use mathlib.Core.Bool.{Bool, not}
-use Prim.Native.Nat.{ℕ}
 use lib.Dec.{T}
 use Rattle.sheet.specs.Items.{realIn}
 use Rattle.sheet.proofs.items.real_at.Statement.{statement}

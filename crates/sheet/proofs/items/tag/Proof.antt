@@ -1,7 +1,7 @@
 -- `sheet::items::tag` meets its contract: past the end the answer is 0.
 -- Assumes nothing.
 use borrow.Author.Needs.{needs}
-use mathlib.Core.Path.{_≡_, refl, sym, ap, ap₂, _∙_, subst}
+use mathlib.Core.Path.{sym}
 use lib.ListN.{List·getD-eq-default}
 use Rattle.sheet.proofs.items.tag.Statement.{statement}
 use Rattle.sheet.proofs.items.tag.Tie as tie

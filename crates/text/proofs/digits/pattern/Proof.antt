@@ -1,10 +1,10 @@
 -- `text::digits::pattern` meets its contract: a NaN differs from itself, and `toBits` writes the quiet one for it.
 -- Assumes nothing.
 use borrow.Author.Needs.{needs}
-use mathlib.Core.Path.{_≡_, refl, sym, ap, _∙_, subst}
+use mathlib.Core.Path.{sym, ap, _∙_, subst}
 use mathlib.Core.Bool.{Bool, not}
 use lib.Dec.{T}
-use lib.Ieee.{nan, binary64, toBits}
+use lib.Ieee.{binary64, toBits}
 use lib.Ieee.Compare.{differs-from-itself}
 use Rattle.text.specs.TextLaws.{ne-self}
 use Rattle.text.proofs.digits.pattern.Statement.{statement}

@@ -2,7 +2,7 @@
 -- Assumes nothing.
 use mathlib.Core.Path.{_≡_}
 use native.Mathlib.Omega.{arith}
-use Prim.Native.Nat.{ℕ, suc, _+_, _/_, _≤_, _<_}
+use Prim.Native.Nat.{suc, _+_, _/_, _≤_}
 use Rattle.text.specs.Text.{places}
 use Rattle.text.specs.TextLaws.{places-few, places-more, places-most}
 use Rattle.text.proofs.digits.places.Statement.{statement}

@@ -1,7 +1,6 @@
 -- `text::digits::put_digits` meets its contract: with the digits that are left put down, the buffer is what it has to be.
 -- Assumes nothing.
 use mathlib.Core.Path.{_≡_, refl, sym, ap, _∙_}
-use mathlib.Core.List.{List}
 use native.Mathlib.Nat.{mod-lt}
 use native.Mathlib.Omega.{arith}
 use borrow.Author.Needs.{needs}

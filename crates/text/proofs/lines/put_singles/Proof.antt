@@ -1,16 +1,15 @@
 -- `text::lines::put_singles` meets its contract: the lines from the i-th number on are left.
 -- Assumes nothing.
-use mathlib.Core.Path.{_≡_, refl, sym, ap, _∙_}
-use Prim.Native.Nat.{ℕ, _+_, _-_, _≤_, _<_}
+use mathlib.Core.Path.{refl, ap}
+use Prim.Native.Nat.{_+_, _-_, _≤_}
 use native.Mathlib.Omega.{arith}
-use borrow.Author.Needs.{needs}
-use mathlib.Core.List.{List, [], _∷_, _++_}
+use mathlib.Core.List.{[], _∷_}
 use lib.ListN.{length, drop, getD, length-append}
 use lib.Ieee.{nan}
 use Rattle.text.specs.Put.{Left}
 use Rattle.text.specs.PutLaws.{left-all, left-as, left-more, left-none}
 use Rattle.text.specs.Text.{line, singles}
-use Rattle.text.specs.TextLaws.{length-line-1, singles-next, singles-none}
+use Rattle.text.specs.TextLaws.{singles-next, singles-none}
 use Rattle.text.proofs.lines.put_singles.Statement.{statement}
 use Rattle.text.proofs.lines.put_singles.Tie as tie
 

@@ -1,10 +1,9 @@
 -- `text::raw::put_bytes` meets its contract: after i turns the first i bytes are put.
 -- Assumes nothing.
-use mathlib.Core.Path.{_≡_, refl, sym, ap, _∙_}
-use Prim.Native.Nat.{ℕ, _+_, _-_, _≤_, _<_}
+use mathlib.Core.Path.{_≡_, refl, _∙_}
+use Prim.Native.Nat.{_-_, _≤_}
 use native.Mathlib.Omega.{arith}
-use borrow.Author.Needs.{needs}
-use lib.ListN.{length, take, set, length-set}
+use lib.ListN.{length, take, length-set}
 use Rattle.stretch.specs.Stretch.{splice}
 use Rattle.stretch.specs.LoopLaws.{write-none}
 use Rattle.text.specs.PutLaws.{bytes-step, bytes-put}

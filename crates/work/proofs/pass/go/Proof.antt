@@ -6,7 +6,7 @@ use lib.ListN.{length}
 use borrow.Author.Needs.{needs}
 use Rattle.work.specs.Memory.{goes, work}
 use Rattle.work.specs.Ready.{Standing, Comes}
-use Rattle.work.proofs.Laws.{roomy-as-long, goes-none, goes-more, goes-ended, goes-done, came-standing, came-place}
+use Rattle.work.proofs.Laws.{goes-none, goes-more, goes-ended, goes-done, came-standing, came-place}
 use Rattle.work.proofs.pass.go.Statement.{statement}
 use Rattle.work.proofs.pass.go.Tie as tie
 

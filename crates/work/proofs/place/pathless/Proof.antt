@@ -1,8 +1,5 @@
 -- `pathless` meets its contract: its walk is that of no path. Assumes nothing.
-use mathlib.Core.Path.{ap}
 use borrow.Author.Needs.{needs}
-use Rattle.pde.specs.declared.Walk.{Walk}
-use Rattle.work.specs.declared.Stand.{Stand}
 use Rattle.work.proofs.LawsSeek.{stood-nowhere}
 use Rattle.work.proofs.place.pathless.Statement.{statement}
 use Rattle.work.proofs.place.pathless.Tie as tie

@@ -1,10 +1,10 @@
 -- `writing::putting::pattern` meets its contract: a NaN differs from itself, and `toBits` writes the quiet one for it.
 -- Assumes nothing.
 use borrow.Author.Needs.{needs}
-use mathlib.Core.Path.{_≡_, refl, sym, ap, ap₂, _∙_, subst}
+use mathlib.Core.Path.{sym, ap, _∙_, subst}
 use mathlib.Core.Bool.{Bool, not}
 use lib.Dec.{T}
-use lib.Ieee.{Float, nan, isNan, binary64, toBits}
+use lib.Ieee.{binary64, toBits}
 use lib.Ieee.Compare.{differs-from-itself}
 use Rattle.format.proofs.Laws.{ne-self}
 use Rattle.writing.proofs.putting.pattern.Statement.{statement}

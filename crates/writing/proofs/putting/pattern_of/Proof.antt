@@ -1,7 +1,7 @@
 -- `writing::putting::pattern_of` meets its contract: each case is that of `patternOf`.
 -- Assumes nothing.
 use borrow.Author.Needs.{needs}
-use mathlib.Core.Path.{_≡_, refl, sym, ap, ap₂, _∙_, subst}
+use mathlib.Core.Path.{sym, ap, _∙_}
 use Prim.Native.Nat.{ℕ}
 use Rattle.format.specs.declared.Whole.{Whole}
 use Rattle.writing.specs.Write.{patternOf}

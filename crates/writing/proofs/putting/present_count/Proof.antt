@@ -2,7 +2,7 @@
 -- Assumes nothing.
 use borrow.Author.Needs.{needs}
 use native.Mathlib.Omega.{arith}
-use mathlib.Core.Path.{_≡_, refl, sym, ap, ap₂, _∙_, subst}
+use mathlib.Core.Path.{_≡_, ap, _∙_}
 use Rattle.format.specs.Refusal.{hasWhole, hasReal}
 use Rattle.writing.specs.Write.{oneIf}
 use Rattle.writing.proofs.Puts.{present-length, whole-one, real-one}

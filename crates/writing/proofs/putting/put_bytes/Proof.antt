@@ -1,11 +1,9 @@
 -- `writing::putting::put_bytes` meets its contract: the count is put down, and the numbers behind it one by one.
 -- Assumes nothing.
-use borrow.Author.Needs.{needs}
 use native.Mathlib.Omega.{arith}
-use mathlib.Core.Path.{_≡_, refl, sym, ap, ap₂, _∙_, subst}
-use Prim.Native.Nat.{ℕ, _+_, _*_, _-_, _<_}
-use mathlib.Core.List.{List}
-use lib.ListN.{length, getD, length-set}
+use mathlib.Core.Path.{_≡_, ap, _∙_}
+use Prim.Native.Nat.{ℕ, _+_, _-_}
+use lib.ListN.{length, getD}
 use Rattle.format.specs.Place.{placed}
 use Rattle.format.specs.PlaceLaws.{length-placed}
 use Rattle.writing.proofs.Puts.{Down, down-none, down-more, section-down, section-same, byte-put}

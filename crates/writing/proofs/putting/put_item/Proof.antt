@@ -2,12 +2,10 @@
 -- Assumes nothing.
 use borrow.Author.Needs.{needs}
 use native.Mathlib.Omega.{arith}
-use mathlib.Core.Path.{_≡_, refl, sym, ap, ap₂, _∙_, subst}
-use Prim.Native.Nat.{ℕ, _+_, _*_, _-_, _≤_}
-use lib.ListN.{length, set, length-set}
-use Rattle.format.specs.Place.{placed}
+use mathlib.Core.Path.{sym, ap, _∙_, subst}
+use Prim.Native.Nat.{_+_, _*_, _-_, _≤_}
+use lib.ListN.{length, length-set}
 use Rattle.format.specs.PlaceLaws.{placed-none, length-placed}
-use mathlib.Core.List.{List}
 use Rattle.format.specs.declared.Whole.{Whole}
 use Rattle.format.specs.Bytes.{bytes, allBytes}
 use Rattle.writing.specs.Write.{slotItem, PutsItem}

@@ -2,15 +2,14 @@
 -- Assumes nothing.
 use borrow.Author.Needs.{needs}
 use native.Mathlib.Omega.{arith}
-use mathlib.Core.Path.{_≡_, refl, sym, ap, ap₂, _∙_, subst}
-use Prim.Native.Nat.{ℕ, _+_, _*_, _-_, _<_}
-use mathlib.Core.List.{List}
-use lib.ListN.{length, getD}
+use mathlib.Core.Path.{_≡_, refl, ap, _∙_}
+use Prim.Native.Nat.{ℕ, _+_, _*_, _-_}
+use lib.ListN.{length}
 use lib.Ieee.{nan, binary64, toBits}
 use Rattle.format.specs.Bytes.{bytes}
 use Rattle.format.specs.Place.{placed}
 use Rattle.format.specs.PlaceLaws.{length-placed}
-use Rattle.writing.proofs.Puts.{Down, down-none, down-more, section-down, section-same, byte-put}
+use Rattle.writing.proofs.Puts.{Down, down-none, down-more, section-down}
 use Rattle.writing.proofs.putting.put_reals.Statement.{statement}
 use Rattle.writing.proofs.putting.put_reals.Tie as tie
 

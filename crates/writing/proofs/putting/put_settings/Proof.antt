@@ -2,10 +2,10 @@
 -- Assumes nothing.
 use borrow.Author.Needs.{needs}
 use native.Mathlib.Omega.{arith}
-use mathlib.Core.Path.{_≡_, refl, sym, ap, ap₂, _∙_, subst}
-use Prim.Native.Nat.{ℕ, _+_, _*_, _-_, _≤_}
-use lib.ListN.{length, set, length-set}
-use Rattle.format.specs.PlaceLaws.{placed-none, length-placed}
+use mathlib.Core.Path.{_≡_, ap, _∙_, subst}
+use Prim.Native.Nat.{_+_, _-_}
+use lib.ListN.{length}
+use Rattle.format.specs.PlaceLaws.{length-placed}
 use Rattle.format.specs.declared.Whole.{Whole}
 use Rattle.writing.specs.Write.{patternOf, slotItem, PutsItem}
 use Rattle.writing.proofs.Puts.{present-length, puts-long, settings-put}

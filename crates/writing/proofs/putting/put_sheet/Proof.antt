@@ -2,7 +2,7 @@
 -- Assumes nothing.
 use borrow.Author.Needs.{needs}
 use native.Mathlib.Omega.{arith}
-use mathlib.Core.Path.{_≡_, refl, sym, ap, ap₂, _∙_, subst}
+use mathlib.Core.Path.{refl}
 use Rattle.format.specs.SettingLaws.{present-few}
 use Rattle.writing.specs.Write.{contentBy}
 use Rattle.writing.proofs.Whole.{sheet-put}

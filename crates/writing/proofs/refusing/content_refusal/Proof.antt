@@ -1,7 +1,7 @@
 -- `writing::refusing::content_refusal` meets its contract: its steps are the links of `refusalOf` in their order.
 -- Assumes nothing.
 use borrow.Author.Needs.{needs}
-use mathlib.Core.Path.{_≡_, refl, sym, ap, ap₂, _∙_, subst}
+use mathlib.Core.Path.{sym, _∙_}
 use Rattle.format.specs.RefusalLaws.{refused-first, decided-second}
 use Rattle.writing.proofs.Whole.{refusal-steps}
 use Rattle.writing.proofs.refusing.content_refusal.Statement.{statement}

@@ -1,8 +1,7 @@
 -- `writing::refusing::mesh_refusal` meets its contract: the four lists are tested in the order of their sections.
 -- Assumes nothing.
 use borrow.Author.Needs.{needs}
-use native.Mathlib.Omega.{arith}
-use mathlib.Core.Path.{_≡_, refl, sym, ap, ap₂, _∙_, subst}
+use mathlib.Core.Path.{sym, _∙_}
 use Rattle.writing.specs.Write.{meshRefusal}
 use Rattle.format.specs.RefusalLaws.{refused-first, decided-second}
 use Rattle.writing.proofs.Whole.{triangles-few}

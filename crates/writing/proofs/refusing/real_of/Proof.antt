@@ -1,7 +1,6 @@
 -- `writing::refusing::real_of` meets its contract: the tests are those of `realOf`.
 -- Assumes nothing.
-use borrow.Author.Needs.{needs}
-use mathlib.Core.Path.{_≡_, refl, sym, ap, ap₂, _∙_, subst}
+use mathlib.Core.Path.{sym, _∙_}
 use borrow.Author.Tests.{eq-eqb, ne-eqb}
 use Rattle.format.specs.RefusalLaws.{pick-true, pick-false}
 use Rattle.writing.proofs.refusing.real_of.Statement.{statement}

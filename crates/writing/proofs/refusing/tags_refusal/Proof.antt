@@ -2,10 +2,9 @@
 -- Assumes nothing.
 use borrow.Author.Needs.{needs}
 use native.Mathlib.Omega.{arith}
-use mathlib.Core.Path.{_≡_, refl, sym, ap, ap₂, _∙_, subst}
-use Prim.Native.Nat.{ℕ, _*_, _/_, _-_}
+use Prim.Native.Nat.{_-_}
 use lib.ListN.{length}
-use Rattle.format.specs.Refusal.{each, coordinateFault, vertexFault, neighbourFault, tagFault}
+use Rattle.format.specs.Refusal.{each, tagFault}
 use Rattle.format.specs.RefusalLaws.{Passed}
 use Rattle.writing.specs.Write.{tagsRefusal}
 use Rattle.format.specs.SectionLaws.{unlike-refuses, unlike-passes}

@@ -1,7 +1,7 @@
 -- `writing::refusing::values_refusal` meets its contract: the settings that are present are tested by rising kind.
 -- Assumes nothing.
 use borrow.Author.Needs.{needs}
-use mathlib.Core.Path.{_≡_, refl, sym, ap, ap₂, _∙_, subst}
+use mathlib.Core.Path.{sym, _∙_}
 use Rattle.format.specs.RefusalLaws.{refused-first, decided-second}
 use Rattle.writing.proofs.Puts.{present-faults}
 use Rattle.writing.proofs.refusing.values_refusal.Statement.{statement}

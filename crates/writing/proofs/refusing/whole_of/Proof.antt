@@ -1,7 +1,6 @@
 -- `writing::refusing::whole_of` meets its contract: the test is that of `wholeOf`.
 -- Assumes nothing.
-use borrow.Author.Needs.{needs}
-use mathlib.Core.Path.{_≡_, refl, sym, ap, ap₂, _∙_, subst}
+use mathlib.Core.Path.{sym}
 use borrow.Author.Tests.{eq-eqb, ne-eqb}
 use Rattle.format.specs.RefusalLaws.{pick-true, pick-false}
 use Rattle.writing.proofs.refusing.whole_of.Statement.{statement}
