@@ -4,7 +4,6 @@ use crate::sheets::put;
 use crate::sheets::put_float;
 use pde::Walk;
 use plane::Point;
-use run::Answer;
 use run::Opened;
 use work::Given;
 use work::Kept;
@@ -13,18 +12,28 @@ use work::Plan;
 use work::Run;
 use work::Stand;
 ghost use mathlib.Core.Path.{_≡_};
+ghost use lib.ListN.{getD, length};
+ghost use Rattle.binary64.specs.Constants.{plusZero};
 ghost use Rattle.pde.specs.Path.{lengthOf};
+ghost use Rattle.image.specs.Calls.{buffers, fault, runAfter, buffersAfter};
+ghost use Rattle.image.specs.Points.{pointsOf};
+ghost use Rattle.image.specs.Replay.{callOf, opened};
+ghost use Rattle.exports.specs.Answers as Answers;
 
 // What has no place reads as 0.
 
-fn whole(list: &[u64], at: usize) -> u64 {
+fn whole(list: &[u64], at: usize) -> u64
+    ensures { λ r. ⌜ r ≡ getD (now (list .entry)) at 0 ⌝ }
+{
     if at < list.len() {
         return list[at];
     }
     0
 }
 
-fn real(list: &[f64], at: usize) -> f64 {
+fn real(list: &[f64], at: usize) -> f64
+    ensures { λ r. ⌜ r ≡ getD (now (list .entry)) at plusZero ⌝ }
+{
     if at < list.len() {
         return list[at];
     }
@@ -33,7 +42,9 @@ fn real(list: &[f64], at: usize) -> f64 {
 
 // ---- a record from its numbers
 
-fn given_from(wholes: &[u64], reals: &[f64]) -> Given {
+fn given_from(wholes: &[u64], reals: &[f64]) -> Given
+    ensures { λ r. ⌜ r ≡ Answers.givenFrom (now (wholes .entry)) (now (reals .entry)) ⌝ }
+{
     if whole(wholes, 4) == 0 {
         return Given::Nothing;
     }
@@ -42,7 +53,9 @@ fn given_from(wholes: &[u64], reals: &[f64]) -> Given {
     Given::At(Point { x, y })
 }
 
-fn plan_from(wholes: &[u64], reals: &[f64]) -> Plan {
+fn plan_from(wholes: &[u64], reals: &[f64]) -> Plan
+    ensures { λ r. ⌜ r ≡ Answers.planFrom (now (wholes .entry)) (now (reals .entry)) ⌝ }
+{
     let start = given_from(wholes, reals);
     Plan {
         n: whole(wholes, 0) as usize,
@@ -55,7 +68,9 @@ fn plan_from(wholes: &[u64], reals: &[f64]) -> Plan {
     }
 }
 
-fn walk_from(wholes: &[u64], reals: &[f64]) -> Walk {
+fn walk_from(wholes: &[u64], reals: &[f64]) -> Walk
+    ensures { λ r. ⌜ r ≡ Answers.walkFrom (now (wholes .entry)) (now (reals .entry)) ⌝ }
+{
     let x = real(reals, 5);
     let y = real(reals, 6);
     Walk {
@@ -67,7 +82,9 @@ fn walk_from(wholes: &[u64], reals: &[f64]) -> Walk {
     }
 }
 
-fn stand_from(wholes: &[u64], reals: &[f64]) -> Stand {
+fn stand_from(wholes: &[u64], reals: &[f64]) -> Stand
+    ensures { λ r. ⌜ r ≡ Answers.standFrom (now (wholes .entry)) (now (reals .entry)) ⌝ }
+{
     let walk = walk_from(wholes, reals);
     Stand {
         place: whole(wholes, 5) as usize,
@@ -79,7 +96,9 @@ fn stand_from(wholes: &[u64], reals: &[f64]) -> Stand {
     }
 }
 
-fn mark_from(wholes: &[u64], reals: &[f64]) -> Mark {
+fn mark_from(wholes: &[u64], reals: &[f64]) -> Mark
+    ensures { λ r. ⌜ r ≡ Answers.markFrom (now (wholes .entry)) (now (reals .entry)) ⌝ }
+{
     if whole(wholes, 13) == 0 {
         return Mark::Nothing;
     }
@@ -91,7 +110,9 @@ fn mark_from(wholes: &[u64], reals: &[f64]) -> Mark {
     Mark::At(kept)
 }
 
-fn run_from(wholes: &[u64], reals: &[f64]) -> Run {
+fn run_from(wholes: &[u64], reals: &[f64]) -> Run
+    ensures { λ r. ⌜ r ≡ Answers.runFrom (now (wholes .entry)) (now (reals .entry)) ⌝ }
+{
     let plan = plan_from(wholes, reals);
     let stand = stand_from(wholes, reals);
     let mark = mark_from(wholes, reals);
@@ -105,7 +126,9 @@ fn run_from(wholes: &[u64], reals: &[f64]) -> Run {
 
 // ---- the numbers of a record, as far as there are places for them
 
-fn put_given(given: Given, wholes: &mut [u64], reals: &mut [f64]) {
+fn put_given(given: Given, wholes: &mut [u64], reals: &mut [f64])
+    ensures { λ _. ⌜ (now (wholes .exit) ≡ Answers.wholesGiven given (now (wholes .entry))) × (now (reals .exit) ≡ Answers.realsGiven given (now (reals .entry))) ⌝ }
+{
     match given {
         Given::Nothing => put(wholes, 4, 0),
         Given::At(p) => {
@@ -116,7 +139,9 @@ fn put_given(given: Given, wholes: &mut [u64], reals: &mut [f64]) {
     }
 }
 
-fn put_plan(plan: Plan, wholes: &mut [u64], reals: &mut [f64]) {
+fn put_plan(plan: Plan, wholes: &mut [u64], reals: &mut [f64])
+    ensures { λ _. ⌜ (now (wholes .exit) ≡ Answers.wholesPlan plan (now (wholes .entry))) × (now (reals .exit) ≡ Answers.realsPlan plan (now (reals .entry))) ⌝ }
+{
     let start = plan.start;
     put(wholes, 0, plan.n as u64);
     put(wholes, 1, plan.t as u64);
@@ -127,7 +152,9 @@ fn put_plan(plan: Plan, wholes: &mut [u64], reals: &mut [f64]) {
     put_given(start, wholes, reals);
 }
 
-fn put_walk(walk: Walk, wholes: &mut [u64], reals: &mut [f64]) {
+fn put_walk(walk: Walk, wholes: &mut [u64], reals: &mut [f64])
+    ensures { λ _. ⌜ (now (wholes .exit) ≡ Answers.wholesWalk walk (now (wholes .entry))) × (now (reals .exit) ≡ Answers.realsWalk walk (now (reals .entry))) ⌝ }
+{
     let p = walk.position;
     put_float(reals, 5, p.x);
     put_float(reals, 6, p.y);
@@ -137,7 +164,9 @@ fn put_walk(walk: Walk, wholes: &mut [u64], reals: &mut [f64]) {
     put(wholes, 11, walk.end as u64);
 }
 
-fn put_stand(stand: Stand, wholes: &mut [u64], reals: &mut [f64]) {
+fn put_stand(stand: Stand, wholes: &mut [u64], reals: &mut [f64])
+    ensures { λ _. ⌜ (now (wholes .exit) ≡ Answers.wholesStand stand (now (wholes .entry))) × (now (reals .exit) ≡ Answers.realsStand stand (now (reals .entry))) ⌝ }
+{
     let walk = stand.walk;
     put(wholes, 5, stand.place as u64);
     put_float(reals, 4, stand.rs);
@@ -147,7 +176,9 @@ fn put_stand(stand: Stand, wholes: &mut [u64], reals: &mut [f64]) {
     put(wholes, 12, stand.crossings as u64);
 }
 
-fn put_mark(mark: Mark, wholes: &mut [u64], reals: &mut [f64]) {
+fn put_mark(mark: Mark, wholes: &mut [u64], reals: &mut [f64])
+    ensures { λ _. ⌜ (now (wholes .exit) ≡ Answers.wholesMark mark (now (wholes .entry))) × (now (reals .exit) ≡ Answers.realsMark mark (now (reals .entry))) ⌝ }
+{
     match mark {
         Mark::Nothing => put(wholes, 13, 0),
         Mark::At(k) => {
@@ -159,7 +190,9 @@ fn put_mark(mark: Mark, wholes: &mut [u64], reals: &mut [f64]) {
     }
 }
 
-fn put_run(run: Run, wholes: &mut [u64], reals: &mut [f64]) {
+fn put_run(run: Run, wholes: &mut [u64], reals: &mut [f64])
+    ensures { λ _. ⌜ (now (wholes .exit) ≡ Answers.wholesRun run (now (wholes .entry))) × (now (reals .exit) ≡ Answers.realsRun run (now (reals .entry))) ⌝ }
+{
     let plan = run.plan;
     let stand = run.stand;
     let mark = run.mark;
@@ -180,7 +213,9 @@ pub extern "C" fn cintrok_open(
     path: &mut [f64],
     wholes: &mut [u64],
     reals: &mut [f64],
-) -> u32 {
+) -> u32
+    ensures { λ r. ⌜ (r ≡ Answers.openedNumber (opened (now (sheet .entry)) (buffers (now (floats .entry)) (now (words .entry)) (now (path .entry))) .answer)) × (buffers (now (floats .exit)) (now (words .exit)) (now (path .exit)) ≡ opened (now (sheet .entry)) (buffers (now (floats .entry)) (now (words .entry)) (now (path .entry))) .all) × (now (wholes .exit) ≡ Answers.wholesOpened (opened (now (sheet .entry)) (buffers (now (floats .entry)) (now (words .entry)) (now (path .entry))) .answer) (now (wholes .entry))) × (now (reals .exit) ≡ Answers.realsOpened (opened (now (sheet .entry)) (buffers (now (floats .entry)) (now (words .entry)) (now (path .entry))) .answer) (now (reals .entry))) ⌝ }
+{
     let opened = run::open(sheet, floats, words, path);
     match opened {
         Opened::Refused(k) => k,
@@ -189,27 +224,6 @@ pub extern "C" fn cintrok_open(
             0
         }
     }
-}
-
-// The call that the number means: 0 advance, 1 back, 2 mark, any other return.
-fn call(
-    number: u32,
-    k: u32,
-    r: Run,
-    floats: &mut [f64],
-    words: &[u32],
-    path: &mut [f64],
-) -> Answer {
-    if number == 0 {
-        return run::advance(r, k, floats, words, path);
-    }
-    if number == 1 {
-        return run::back(r, k, floats, words, path);
-    }
-    if number == 2 {
-        return run::mark(r, floats, words, path);
-    }
-    run::return_to_mark(r, floats, words, path)
 }
 
 // 0 with the record's numbers after the call, or the refusal's.
@@ -222,9 +236,11 @@ pub extern "C" fn cintrok_call(
     path: &mut [f64],
     wholes: &mut [u64],
     reals: &mut [f64],
-) -> u32 {
+) -> u32
+    ensures { λ r. ⌜ (r ≡ fault (callOf number k) (Answers.runFrom (now (wholes .entry)) (now (reals .entry))) (buffers (now (floats .entry)) (now (words .entry)) (now (path .entry)))) × (buffers (now (floats .exit)) (now (words .entry)) (now (path .exit)) ≡ buffersAfter (callOf number k) (Answers.runFrom (now (wholes .entry)) (now (reals .entry))) (buffers (now (floats .entry)) (now (words .entry)) (now (path .entry)))) × (now (wholes .exit) ≡ Answers.wholesRun (runAfter (callOf number k) (Answers.runFrom (now (wholes .entry)) (now (reals .entry))) (buffers (now (floats .entry)) (now (words .entry)) (now (path .entry)))) (now (wholes .entry))) × (now (reals .exit) ≡ Answers.realsRun (runAfter (callOf number k) (Answers.runFrom (now (wholes .entry)) (now (reals .entry))) (buffers (now (floats .entry)) (now (words .entry)) (now (path .entry)))) (now (reals .entry))) ⌝ }
+{
     let before = run_from(wholes, reals);
-    let answer = call(number, k, before, floats, words, path);
+    let answer = run::perform(before, number, k, floats, words, path);
     let after = answer.run;
     put_run(after, wholes, reals);
     answer.refused
@@ -232,7 +248,9 @@ pub extern "C" fn cintrok_call(
 
 // How many numbers of the path, from its front, are its points.
 #[no_mangle]
-pub extern "C" fn cintrok_points(path: &[f64], wholes: &[u64], reals: &[f64]) -> usize {
+pub extern "C" fn cintrok_points(path: &[f64], wholes: &[u64], reals: &[f64]) -> usize
+    ensures { λ r. ⌜ r ≡ length (pointsOf (Answers.runFrom (now (wholes .entry)) (now (reals .entry))) (now (path .entry))) ⌝ }
+{
     let r = run_from(wholes, reals);
     let points = run::points(r, path);
     points.len()

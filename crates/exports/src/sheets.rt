@@ -7,23 +7,32 @@ use sheet::Checked;
 use sheet::Header;
 use sheet::Written;
 ghost use mathlib.Core.Path.{_≡_};
-ghost use lib.ListN.{getD};
-ghost use Rattle.sheet.specs.Items.{wholeIn};
+ghost use lib.ListN.{getD, set};
+ghost use Rattle.format.specs.Sheet.{parse};
+ghost use Rattle.sheet.specs.Answer.{checkedOf};
+ghost use Rattle.sheet.specs.Items.{vertexIn, wholeIn};
+ghost use Rattle.exports.specs.Answers.{checkedNumber};
 
 // Stores that leave out what has no place.
-pub fn put(out: &mut [u64], at: usize, v: u64) {
+pub fn put(out: &mut [u64], at: usize, v: u64)
+    ensures { λ _. ⌜ now (out .exit) ≡ set (now (out .entry)) at v ⌝ }
+{
     if at < out.len() {
         out[at] = v;
     }
 }
 
-pub fn put_float(out: &mut [f64], at: usize, x: f64) {
+pub fn put_float(out: &mut [f64], at: usize, x: f64)
+    ensures { λ _. ⌜ now (out .exit) ≡ set (now (out .entry)) at x ⌝ }
+{
     if at < out.len() {
         out[at] = x;
     }
 }
 
-fn put_word(out: &mut [u32], at: usize, v: u32) {
+fn put_word(out: &mut [u32], at: usize, v: u32)
+    ensures { λ _. ⌜ now (out .exit) ≡ set (now (out .entry)) at v ⌝ }
+{
     if at < out.len() {
         out[at] = v;
     }
@@ -84,7 +93,9 @@ fn put_starts(header: Header, wholes: &mut [u64]) {
 
 // 0 with n, T, the settings and where the items of sections 1 to 4 start, as far as there are places for them; or the refusal's number.
 #[no_mangle]
-pub extern "C" fn cintrok_check_sheet(bytes: &[u8], wholes: &mut [u64], reals: &mut [f64]) -> u32 {
+pub extern "C" fn cintrok_check_sheet(bytes: &[u8], wholes: &mut [u64], reals: &mut [f64]) -> u32
+    ensures { λ r. ⌜ r ≡ checkedNumber (checkedOf (parse (now (bytes .entry)))) ⌝ }
+{
     let checked = sheet::check_sheet(bytes);
     match checked {
         Checked::Refused(k) => k,
@@ -102,7 +113,9 @@ pub extern "C" fn cintrok_check_sheet(bytes: &[u8], wholes: &mut [u64], reals: &
 // The items of a part, which is the sheet from where the items of a section start.
 
 #[no_mangle]
-pub extern "C" fn cintrok_vertex(part: &[u8], i: usize, out: &mut [f64]) {
+pub extern "C" fn cintrok_vertex(part: &[u8], i: usize, out: &mut [f64])
+    ensures { λ _. ⌜ now (out .exit) ≡ set (set (now (out .entry)) 0 (vertexIn (now (part .entry)) i .x)) 1 (vertexIn (now (part .entry)) i .y) ⌝ }
+{
     let p = sheet::items::vertex(part, i);
     put_float(out, 0, p.x);
     put_float(out, 1, p.y);

@@ -16,4 +16,5 @@ pub use parts::norms;
 pub use path::length;
 pub use path::points;
 pub use replaying::make;
+pub use replaying::perform;
 pub use replaying::replay;

@@ -8,7 +8,7 @@ ghost use Rattle.image.specs.Calls.{buffers, Does};
 ghost use Rattle.image.specs.Replay.{callOf, lentAt, Turned, Performs, Replayed};
 
 // The call that two numbers name.
-fn perform(
+pub fn perform(
     run: Run,
     kind: u32,
     k: u32,
