@@ -79,9 +79,9 @@ even-operand g m e = sym (ap (λ (x : ℕ). m * 2 ^ x) e ∙ mul-one m)
 pub odd-operand : (g m : ℕ) → (g % 2 ≡ 0 → ⊥) → 2 * m ≡ m * 2 ^ (g % 2)
 odd-operand g m n = let e : g % 2 ≡ 1 = omega arith in sym (ap (λ (x : ℕ). m * 2 ^ x) e ∙ mul-comm m 2)
 
-pub pattern-is : (g m o r : ℕ) → o ≡ m * 2 ^ (g % 2) → r ≡ wholeRoot 54 (o * 2 ^ 54) → (g / 2 - 1) * 2 ^ 52 + (r + 1) / 2 ≡ rootPattern g m
+pub pattern-is : (g m o r : ℕ) → o ≡ m * 2 ^ (g % 2) → r ≡ (wholeRoot 54 (o * 2 ^ 54) + 1) / 2 → (g / 2 - 1) * 2 ^ 52 + r ≡ rootPattern g m
 unfolding rootPattern
-pattern-is g m o r e d = ap (λ (x : ℕ). (g / 2 - 1) * 2 ^ 52 + (x + 1) / 2) (d ∙ ap (λ (x : ℕ). wholeRoot 54 (x * 2 ^ 54)) e)
+pattern-is g m o r e d = ap (λ (x : ℕ). (g / 2 - 1) * 2 ^ 52 + x) (d ∙ ap (λ (x : ℕ). (wholeRoot 54 (x * 2 ^ 54) + 1) / 2) e)
 
 -- it is below the infinity's
 

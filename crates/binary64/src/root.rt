@@ -1,9 +1,10 @@
-// The square root of an f64 (IEEE 754-2019, 5.4.1), on bit patterns: 54 digits of it by a guess in
-// floats that a remainder makes certain, or digit by digit where it does not.
+// The square root of an f64 (IEEE 754-2019, 5.4.1), on bit patterns: by a guess in floats that a
+// remainder makes certain, or digit by digit where it does not.
 // `root` is the definition; the double that it gives is the nearest one (proofs/Nearest.antt).
 
 ghost use mathlib.Core.Path.{_≡_};
-ghost use Prim.Native.Nat.{_+_, _*_, _^_, _≤_, _<_};
+ghost use Prim.Native.Nat.{_+_, _*_, _/_, _^_, _≤_, _<_};
+ghost use Rattle.binary64.specs.Number.{pick};
 ghost use Rattle.binary64.specs.Root.{root, rootOf, rootPattern, wholeRoot};
 
 // The weight of the exponent's field in a pattern, and of a significand's leading digit: 2^52.
@@ -12,18 +13,14 @@ const LEADING: u64 = 0x0010_0000_0000_0000;
 // The pattern of -0: the sign's bit alone, 2^63.
 const SIGN: u64 = 0x8000_0000_0000_0000;
 
-// The pattern of 1/2, and four more, which keep a guess below the root. A pattern from 1 to 2 less
-// that of 1/2 is its number in units of 2^-52.
-const START: u64 = 0x3fe0_0000_0000_0004;
-
 // Less half the pattern of x, this is the pattern of 1 / sqrt(x) to within 1 part in 29.
 const MAGIC: u64 = 0x5fe6_eb50_c7b5_37a9;
 
-// The weight of the upper half of the root's 54 digits: 2^27.
-const HALF: u64 = 0x0800_0000;
+// The weight of the upper part of the root's 53 digits: 2^26.
+const HALF: u64 = 0x0400_0000;
 
-// The bound of what 27 zeros can follow in 63 digits: 2^36.
-const ROOM: u64 = 0x0010_0000_0000;
+// The bound of what 26 zeros can follow in 63 digits: 2^37.
+const ROOM: u64 = 0x0020_0000_0000;
 
 // What stands for no remainder.
 const NONE: u64 = 0xffff_ffff_ffff_ffff;
@@ -52,20 +49,21 @@ fn digit_root(operand: u64) -> u64
     root
 }
 
-// A guess at that root in floats, a few units below it for an operand from 2^52 on. Nothing is
-// claimed of it: `whole_root` tests it. x is operand / 2^52, y nears 1 / sqrt(x) by two steps of
+// The whole number nearest to the root of `operand` followed by 52 zeros: of 54 digits the last rounds.
+fn digits_rounded(operand: u64) -> u64
+    requires { ⌜ operand < 2 ^ 54 ⌝ }
+    ensures { λ r. ⌜ r ≡ (wholeRoot 54 (operand * 2 ^ 54) + 1) / 2 ⌝ }
+{
+    (digit_root(operand) + 1) / 2
+}
+
+// A guess in floats at the pattern of x's root, two below it: with the digits that are wrong, one to
+// three below. Nothing is claimed of it: `nearest_root` tests it. y nears 1 / sqrt(x) by two steps of
 // Newton's, and s nears sqrt(x) by a step of the next order. The first step falls short, so its
 // constant is a little above 1.5.
-fn guess(operand: u64) -> u64
-    requires { ⌜ operand < 2 ^ 54 ⌝ }
-    ensures { λ r. ⌜ r < 2 ^ 55 ⌝ }
+fn guess(x: f64, bits: u64) -> u64
+    requires { ⌜ bits < 2047 * 2 ^ 52 ⌝ }
 {
-    let bits = if operand < 2 * LEADING {
-        1022 * LEADING + operand
-    } else {
-        1023 * LEADING + operand / 2
-    };
-    let x = f64::from_bits(bits);
     let h = 0.5 * x;
     let mut y = f64::from_bits(MAGIC - bits / 2);
     y = y * (1.5008909 - h * y * y);
@@ -76,14 +74,14 @@ fn guess(operand: u64) -> u64
     if s != s {
         return 0;
     }
-    std::num::wrapping_sub_u64(f64::to_bits(s), START) % (4 * LEADING) * 2
+    std::num::wrapping_sub_u64(f64::to_bits(s), 2)
 }
 
-// What the square of q leaves of `operand` followed by 54 zeros; `NONE` where it is above that or
-// leaves much. q is a · 2^27 + b, and a², 2ab and b² are taken off in turn.
+// What the square of q leaves of `operand` followed by 52 zeros; `NONE` where it is above that or
+// leaves much. q is a · 2^26 + b, and a², 2ab and b² are taken off in turn.
 fn remainder(operand: u64, q: u64) -> u64
-    requires { ⌜ (operand < 2 ^ 54) × (q < 2 ^ 55) ⌝ }
-    ensures { λ r. ⌜ (r < 2 ^ 63 → q * q + r ≡ operand * 2 ^ 54) ⌝ }
+    requires { ⌜ (operand < 2 ^ 54) × (q < 2 ^ 53) ⌝ }
+    ensures { λ r. ⌜ (r < 2 ^ 63 → q * q + r ≡ operand * 2 ^ 52) ⌝ }
 {
     let a = q / HALF;
     let b = q % HALF;
@@ -110,58 +108,57 @@ fn remainder(operand: u64, q: u64) -> u64
     second * HALF - low
 }
 
-// The root that `digit_root` gives, from the guess where that is certain. From q² the next square
-// is one `step` away and each step is longer by 2, so `more` of them are longer by
-// `more` · (`more` − 1) in all: where what is left falls short of that, the root is one less.
-fn whole_root(operand: u64) -> u64
-    requires { ⌜ operand < 2 ^ 54 ⌝ }
-    ensures { λ r. ⌜ r ≡ wholeRoot 54 (operand * 2 ^ 54) ⌝ }
+fn one_where(b: bool) -> u64
+    ensures { λ r. ⌜ (r ≡ pick b 1 0) × (r ≤ 1) ⌝ }
 {
-    let q = guess(operand);
-    let rest = remainder(operand, q);
-    if SIGN <= rest {
-        return digit_root(operand);
-    }
-    let step = 2 * q + 1;
-    let more = rest / step;
-    let left = rest % step;
-    if HALF <= more {
-        return digit_root(operand);
-    }
-    let square = more * more;
-    if step <= square {
-        return digit_root(operand);
-    }
-    if left + more < square {
-        return q + more - 1;
-    }
-    q + more
+    if b { 1 } else { 0 }
 }
 
-// The pattern of the root of m · 2^(g − 2098): half the exponent, and 54 digits of the root, of
-// which the last rounds.
-fn root_pattern(g: u64, m: u64) -> u64
+// The same from a guess, where that is one to three below it. Between q + k and the next lies the square q² + (2k + 1) q + k (k + 1), and
+// a quarter more.
+fn nearest_root(operand: u64, q: u64) -> u64
+    requires { ⌜ operand < 2 ^ 54 ⌝ }
+    ensures { λ r. ⌜ r ≡ (wholeRoot 54 (operand * 2 ^ 54) + 1) / 2 ⌝ }
+{
+    if 2 * LEADING <= q {
+        return digits_rounded(operand);
+    }
+    let rest = remainder(operand, q);
+    if rest <= q {
+        return digits_rounded(operand);
+    }
+    if 7 * q + 12 < rest {
+        return digits_rounded(operand);
+    }
+    q + 1 + one_where(3 * q + 2 < rest) + one_where(5 * q + 6 < rest)
+}
+
+// The pattern of the root of m · 2^(g − 2098), from a guess at it: half the exponent, and the whole
+// number nearest to the root of the digits.
+fn root_pattern(g: u64, m: u64, guessed: u64) -> u64
     requires { ⌜ (2 ≤ g) × (g < 4096) × (m < 2 ^ 53) ⌝ }
     ensures { λ r. ⌜ r ≡ rootPattern g m ⌝ }
 {
     let operand = if g % 2 == 0 { m } else { 2 * m };
-    (g / 2 - 1) * LEADING + (whole_root(operand) + 1) / 2
+    let base = (g / 2 - 1) * LEADING;
+    let q = std::num::wrapping_sub_u64(guessed, base);
+    base + nearest_root(operand, q)
 }
 
-// The digits of a subnormal are moved up to 53 first.
+// The digits of a subnormal are moved up to 53 first; nothing is guessed.
 fn root_of_subnormal(digits: u64) -> u64
     requires { ⌜ (0 < digits) × (digits < 2 ^ 52) ⌝ }
     ensures { λ r. ⌜ r ≡ rootOf 0 digits ⌝ }
 {
     let z = u64::leading_zeros(digits) - 11;
-    root_pattern(1024 - z as u64, digits << z)
+    root_pattern(1024 - z as u64, digits << z, 0)
 }
 
-fn root_of_ordinary(field: u64, digits: u64) -> u64
+fn root_of_ordinary(field: u64, digits: u64, guessed: u64) -> u64
     requires { ⌜ (0 < field) × (field < 2047) × (digits < 2 ^ 52) ⌝ }
     ensures { λ r. ⌜ r ≡ rootOf field digits ⌝ }
 {
-    root_pattern(1023 + field, LEADING + digits)
+    root_pattern(1023 + field, LEADING + digits, guessed)
 }
 
 // The double nearest to the square root of x: zeros and +infinity return themselves, NaN and
@@ -187,7 +184,10 @@ pub fn sqrt(x: f64) -> f64
             f64::from_bits(root_of_subnormal(digits))
         }
         // ordinary
-        1..=2046 => f64::from_bits(root_of_ordinary(field, digits)),
+        1..=2046 => {
+            let guessed = guess(x, bits);
+            f64::from_bits(root_of_ordinary(field, digits, guessed))
+        }
         // infinite
         _ => x,
     }

@@ -56,11 +56,11 @@ returns-6 c =
     let s = c .before .before .before .before .before in
     let operand = s .args .operand in
     let q = s .args .q in
-    let a = q / 2 ^ 27 in
-    let b = q % 2 ^ 27 in
+    let a = q / 2 ^ 26 in
+    let b = q % 2 ^ 26 in
     let first = operand - a * a in
-    let second = first * 2 ^ 27 - 2 * a * b in
-    λ l. taken-off operand q first second (second * 2 ^ 27 - b * b) (omega arith) (omega arith) (omega arith)
+    let second = first * 2 ^ 26 - 2 * a * b in
+    λ l. taken-off operand q first second (second * 2 ^ 26 - b * b) (omega arith) (omega arith) (omega arith)
 
 pub remainder-spec : {M : Type 1} → statement M
 remainder-spec =

@@ -35,6 +35,9 @@ root-of-subnormal-requires c κs = search needs
 float-from-bits-result : tie.Need-float-from-bits-result
 float-from-bits-result c = root-no-nan 0 _ _ (omega arith) (c .root-of-subnormal .ensures)
 
+guess-requires : tie.Need-guess-requires
+guess-requires c κs = omega arith
+
 root-of-ordinary-requires : tie.Need-root-of-ordinary-requires
 root-of-ordinary-requires c κs = search needs
 
@@ -45,7 +48,7 @@ returns-4 : tie.Need-returns-4
 returns-4 c = let s = c .before .before .before .before .before in of-fields (s .args .x) (held s) _ refl 0 _ (omega arith) (omega arith) (omega arith) (c .root-of-subnormal .ensures)
 
 returns-5 : tie.Need-returns-5
-returns-5 c = let s = c .before .before .before .before .before in of-fields (s .args .x) (held s) _ refl _ _ (omega arith) (omega arith) (omega arith) (c .root-of-ordinary .ensures)
+returns-5 c = let s = c .before .before .before .before .before .before in of-fields (s .args .x) (held s) _ refl _ _ (omega arith) (omega arith) (omega arith) (c .root-of-ordinary .ensures)
 
 returns-6 : tie.Need-returns-6
 returns-6 c = let s = c .before .before .before .before in of-top (s .args .x) (held s) _ refl (omega arith)
@@ -60,6 +63,7 @@ sqrt-spec =
     returns-3
     root-of-subnormal-requires
     float-from-bits-result
+    guess-requires
     root-of-ordinary-requires
     float-from-bits-result-2
     returns-4
