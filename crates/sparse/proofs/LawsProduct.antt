@@ -1,4 +1,4 @@
--- The product by rows: an entry more, a row from the parts that are lent, a row more. Assumes nothing.
+-- The product by rows: an entry more, the partial sums of a row, a row from the parts that are lent, a row more. Assumes nothing.
 use mathlib.Core.Path.{_≡_, refl, sym, ap, _∙_}
 use mathlib.Core.Logic.{⊎-elim}
 use mathlib.Core.List.{List, [], _∷_, _++_}
@@ -17,7 +17,7 @@ use Rattle.stretch.specs.VecLaws.{dot-snoc}
 use Rattle.sparse.specs.declared.Csr.{Csr}
 use Rattle.sparse.specs.Sparse.{Entry, entry, rowFrom, rowProduct, matVec, entries}
 use Rattle.sparse.specs.Stored.{start, end, rowAt, rowsOf, Below}
-use Rattle.sparse.specs.Product.{Apart, Multiplies, Row, RowAt, rowFromTo, Multiplied}
+use Rattle.sparse.specs.Product.{Apart, Multiplies, Row, PartialSum, RowAt, rowFromTo, Multiplied}
 use Rattle.sparse.specs.ProductLaws.{length-rows}
 
 -- ---- a row
@@ -34,17 +34,18 @@ entries-snoc [] (y ∷ vs) c v e = absurd (omega arith)
 entries-snoc (x ∷ cs) [] c v e = absurd (omega arith)
 entries-snoc (x ∷ cs) (y ∷ vs) c v e = ap (λ (r : List Entry). entry x y ∷ r) (entries-snoc cs vs c v (omega arith))
 
-pub row-none : (cols : List ℕ) (vals x : List Float) (from : ℕ) → plusZero ≡ rowProduct (entries (part cols from (from - from)) (part vals from (from - from))) x
+row-none : (cols : List ℕ) (vals x : List Float) (from : ℕ) → plusZero ≡ rowProduct (entries (part cols from (from - from)) (part vals from (from - from))) x
 unfolding rowProduct rowFrom entries part
 row-none cols vals x from = let e : from - from ≡ 0 = omega arith in rw e
 
-pub column-below : (cols : List ℕ) (v n from to e : ℕ) → Row cols v n from to → from ≤ e → e < to → getD cols e 0 < n
-column-below cols v n from to e r h k =
+-- the columns and the values have the entry at e, and its column is below n
+pub entry-fits : {cols : List ℕ} {v n from to : ℕ} (e : ℕ) → Row cols v n from to → from ≤ e → e < to → (e < length cols) × (e < v) × (getD cols e 0 < n)
+entry-fits {cols} {v} {n} {from} {to} e r h k =
     let at : from + (e - from) ≡ e = omega arith in
-    rw at at (r .below .at (e - from) (omega arith))
+    (omega arith, omega arith, rw at at (r .below .at (e - from) (omega arith)))
 
--- a turn of the loop over a row: e is the next entry
-pub row-step : (cols : List ℕ) (vals x : List Float) (from e : ℕ) (sum : Float) → from ≤ e → e < length cols → e < length vals
+-- an entry more: e is the next
+row-step : (cols : List ℕ) (vals x : List Float) (from e : ℕ) (sum : Float) → from ≤ e → e < length cols → e < length vals
     → sum ≡ rowProduct (entries (part cols from (e - from)) (part vals from (e - from))) x
     → sum ⊕ getD vals e nan ⊗ getD x (getD cols e 0) nan ≡ rowProduct (entries (part cols from (e + 1 - from)) (part vals from (e + 1 - from))) x
 unfolding rowProduct
@@ -56,6 +57,25 @@ row-step cols vals x from e sum h hc hv s =
     let iv : from + j < length vals = omega arith in
     let k : length (part cols from j) ≡ length (part vals from j) = length-part cols from j (omega arith) ∙ sym (length-part vals from j (omega arith)) in
     rw (s, more, part-suc cols from j 0 ic, part-suc vals from j nan iv, entries-snoc _ _ _ _ k, rowFrom-snoc, at)
+
+-- ---- the partial sums of a row
+
+pub sum-none : {cols : List ℕ} (values x : List Float) {from to : ℕ} → Row cols (length values) (length x) from to → PartialSum cols values x from to from plusZero
+sum-none {cols} values x {from} {to} r = record { row = r; starts = omega arith; ends = r .rise; is = row-none cols values x from }
+
+pub sum-step : {cols : List ℕ} {values x : List Float} {from to e : ℕ} {sum r : Float} (next : ℕ) → PartialSum cols values x from to e sum → e < to → next ≡ e + 1
+    → r ≡ sum ⊕ getD values e nan ⊗ getD x (getD cols e 0) nan → PartialSum cols values x from to next r
+sum-step {cols} {values} {x} {from} {to} {e} {sum} {r} next s h n t =
+    record {
+      row = s .row;
+      starts = omega arith;
+      ends = omega arith;
+      is = rw (t, n) (row-step cols values x from e sum (s .starts) (omega arith) (omega arith) (s .is));
+    }
+
+pub sum-done : {cols : List ℕ} {values x : List Float} {from to e : ℕ} {sum : Float} → PartialSum cols values x from to e sum → e ≡ to
+    → sum ≡ rowProduct (entries (part cols from (to - from)) (part values from (to - from))) x
+sum-done s h = rw h at (s .is)
 
 -- ---- a row of the stored matrix, from the parts that are lent of the buffers
 

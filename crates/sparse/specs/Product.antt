@@ -9,7 +9,7 @@ use lib.Ieee.{Float}
 use Rattle.stretch.specs.Stretch.{part, splice}
 use Rattle.stretch.specs.Vec.{dot}
 use Rattle.sparse.specs.declared.Csr.{Csr}
-use Rattle.sparse.specs.Sparse.{Entry, entries, matVec}
+use Rattle.sparse.specs.Sparse.{Entry, rowProduct, entries, matVec}
 use Rattle.sparse.specs.Stored.{matrix, Below, Sound}
 
 -- the stretch of m from a and the stretch of n from b have no place in common
@@ -43,6 +43,13 @@ pub record RowAt (words : List ℕ) (l : ℕ) (m : Csr) (p from to : ℕ) : Type
 
 abbrev pub rowFromTo : List ℕ → List Float → Csr → ℕ → ℕ → List Entry
 rowFromTo words floats m from to = entries (part words (m .cols + from) (to - from)) (part floats (m .vals + from) (to - from))
+
+-- A row, and the sum of the products of its entries before e with x.
+pub record PartialSum (cols : List ℕ) (values x : List Float) (from to e : ℕ) (sum : Float) : Type 0 where
+  pub row : Row cols (length values) (length x) from to
+  pub starts : from ≤ e
+  pub ends : e ≤ to
+  pub is : sum ≡ rowProduct (entries (part cols from (e - from)) (part values from (e - from))) x
 
 -- A p at the stretch from `at`, and p·Ap: s is the buffer before, l after it.
 pub record Multiplied (words : List ℕ) (s l : List Float) (m : Csr) (at p : ℕ) (sum : Float) : Type 0 where

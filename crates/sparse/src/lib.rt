@@ -2,6 +2,8 @@
 ghost use mathlib.Core.Path.{_≡_};
 ghost use Prim.Native.Nat.{_+_, _-_, _<_, _≤_};
 ghost use lib.ListN.{length, getD};
+ghost use lib.Ieee.{nan};
+ghost use Rattle.binary64.specs.Arith.{_⊕_, _⊗_};
 ghost use Rattle.stretch.specs.Stretch.{part};
 ghost use Rattle.sparse.specs.Sparse.{rowProduct, entries};
 ghost use Rattle.sparse.specs.Scan as Scan;
@@ -59,18 +61,49 @@ fn index(words: &[u32], at: usize, n: usize) -> usize
     wide(words[at])
 }
 
+// The product of the entry at e with x, added to a sum.
+fn term(cols: &[u32], values: &[f64], x: &[f64], e: usize, sum: f64) -> f64
+    requires { ⌜ (e < length (now cols)) × (e < length (now values)) × (getD (now cols) e 0 < length (now x)) ⌝ }
+    ensures { λ r. ⌜ r ≡ sum ⊕ getD (now (values .entry)) e nan ⊗ getD (now (x .entry)) (getD (now (cols .entry)) e 0) nan ⌝ }
+{
+    let c = index(cols, e, x.len());
+    sum + values[e] * x[c]
+}
+
+// The product of a row with x, from the partial sum of its entries before `first`.
+fn rest(
+    cols: &[u32],
+    values: &[f64],
+    x: &[f64],
+    from: usize,
+    first: usize,
+    to: usize,
+    partial: f64,
+) -> f64
+    requires { ⌜ Product.PartialSum (now cols) (now values) (now x) from to first partial ⌝ }
+    ensures { λ r. ⌜ r ≡ rowProduct (entries (part (now (cols .entry)) from (to - from)) (part (now (values .entry)) from (to - from))) (now (x .entry)) ⌝ }
+{
+    let mut sum = partial;
+    for e in first..to {
+        sum = term(cols, values, x, e, sum);
+    }
+    sum
+}
+
 // The product of a row, the entries from `from` up to `to`, with x.
 fn row(cols: &[u32], values: &[f64], x: &[f64], from: usize, to: usize) -> f64
     requires { ⌜ Product.Row (now cols) (length (now values)) (length (now x)) from to ⌝ }
     ensures { λ r. ⌜ r ≡ rowProduct (entries (part (now (cols .entry)) from (to - from)) (part (now (values .entry)) from (to - from))) (now (x .entry)) ⌝ }
 {
-    let n = x.len();
-    let mut sum = 0.0;
-    for e in from..to {
-        let c = index(cols, e, n);
-        sum = sum + values[e] * x[c];
+    if 5 <= to - from {
+        let a = term(cols, values, x, from, 0.0);
+        let b = term(cols, values, x, from + 1, a);
+        let c = term(cols, values, x, from + 2, b);
+        let d = term(cols, values, x, from + 3, c);
+        let e = term(cols, values, x, from + 4, d);
+        return rest(cols, values, x, from, from + 5, to, e);
     }
-    sum
+    rest(cols, values, x, from, from, to, 0.0)
 }
 
 // The product of a row of the stored matrix, its entries from `from` up to `to`, with the floats from p.

@@ -1,65 +1,84 @@
--- `row` meets its contract: the sum is the product of the entries from `from` up to the next one. Assumes nothing.
-use mathlib.Core.Path.{_≡_}
-use Prim.Native.Nat.{_-_, _≤_}
+-- `row` meets its contract: each term gives the next partial sum. Assumes nothing.
+use Prim.Native.Nat.{_+_}
 use native.Mathlib.Omega.{arith}
 use borrow.Author.Needs.{needs}
-use Rattle.stretch.specs.Stretch.{part}
-use Rattle.sparse.specs.Sparse.{rowProduct, entries}
-use Rattle.sparse.proofs.LawsProduct.{column-below, row-none, row-step}
+use Rattle.sparse.proofs.LawsProduct.{entry-fits, sum-none, sum-step}
 use Rattle.sparse.proofs.row.Statement.{statement}
 use Rattle.sparse.proofs.row.Tie as tie
 
-abbrev Inv-loop : tie.InvT-loop
-Inv-loop cols values x from to n sum₀ e₀ sum e = (from ≤ e) × (e ≤ to) × (sum ≡ rowProduct (entries (part cols from (e - from)) (part values from (e - from))) x)
+sub-if1 : tie.Need-sub-if1
+sub-if1 c = search needs
 
-abbrev μ-loop : tie.MeasureT-loop
-μ-loop cols values x from to n sum₀ e₀ sum e = to - e
+term-requires : tie.Need-term-requires
+term-requires c κs = entry-fits _ (c .before .before .before .before .pre) (omega arith) (omega arith)
 
-loop-holds : tie.Need-loop-holds Inv-loop μ-loop
-loop-holds c = (omega arith, omega arith, row-none _ _ _ _)
+add-term : tie.Need-add-term
+add-term c = search needs
 
-index-requires : tie.Need-index-requires Inv-loop μ-loop
-index-requires c κs = (omega arith, column-below _ _ _ _ _ _ (c .before .before .before .before .before .pre) (c .before .loop .inv .0) (c .loop-test .taken))
+term-requires-2 : tie.Need-term-requires-2
+term-requires-2 c κs = entry-fits _ (c .before .before .before .before .before .pre) (omega arith) (omega arith)
 
-mul-sum : tie.Need-mul-sum Inv-loop μ-loop
-mul-sum c = search needs
+add-term-2 : tie.Need-add-term-2
+add-term-2 c = search needs
 
-shared-slice-read-sum : tie.Need-shared-slice-read-sum Inv-loop μ-loop
-shared-slice-read-sum c = search needs
+term-requires-3 : tie.Need-term-requires-3
+term-requires-3 c κs = entry-fits _ (c .before .before .before .before .before .before .pre) (omega arith) (omega arith)
 
-mul-sum-2 : tie.Need-mul-sum-2 Inv-loop μ-loop
-mul-sum-2 c = search needs
+add-term-3 : tie.Need-add-term-3
+add-term-3 c = search needs
 
-shared-slice-read-sum-2 : tie.Need-shared-slice-read-sum-2 Inv-loop μ-loop
-shared-slice-read-sum-2 c = search needs
+term-requires-4 : tie.Need-term-requires-4
+term-requires-4 c κs = entry-fits _ (c .before .before .before .before .before .before .before .pre) (omega arith) (omega arith)
 
-add-e : tie.Need-add-e Inv-loop μ-loop
-add-e c = search needs
+add-term-4 : tie.Need-add-term-4
+add-term-4 c = search needs
 
-loop-less : tie.Need-loop-less Inv-loop μ-loop
-loop-less c = search needs
+term-requires-5 : tie.Need-term-requires-5
+term-requires-5 c κs = entry-fits _ (c .before .before .before .before .before .before .before .before .pre) (omega arith) (omega arith)
 
-loop-again : tie.Need-loop-again Inv-loop μ-loop
-loop-again c = let at-loop = c .before .before .before .before in
-    let col = c .before .before .index .ensures in
-    (omega arith, omega arith, rw (col .0) (row-step _ _ _ _ _ _ (at-loop .loop .inv .0) (omega arith) (omega arith) (at-loop .loop .inv .2)))
+add-rest : tie.Need-add-rest
+add-rest c = search needs
 
-returns : tie.Need-returns Inv-loop μ-loop
-returns c = let done : c .before .loop .e ≡ c .before .before .before .before .before .args .to = omega arith in cc
+rest-requires : tie.Need-rest-requires
+rest-requires c κs =
+    let four = c .before in
+    let three = four .before in
+    let two = three .before in
+    let one = two .before in
+    let start = one .before .before .before .before .before in
+    let from = start .args .from in
+    let s0 = sum-none (start .args .values .now) (start .args .x .now) (start .pre) in
+    let s1 = sum-step (from + 1) s0 (omega arith) (omega arith) (one .term .ensures) in
+    let s2 = sum-step (from + 2) s1 (omega arith) (omega arith) (two .term2 .ensures) in
+    let s3 = sum-step (from + 3) s2 (omega arith) (omega arith) (three .term3 .ensures) in
+    let s4 = sum-step (from + 4) s3 (omega arith) (omega arith) (four .term4 .ensures) in
+    sum-step (from + 5) s4 (omega arith) (omega arith) (c .term5 .ensures)
+
+returns : tie.Need-returns
+returns c = search needs
+
+rest-requires-2 : tie.Need-rest-requires-2
+rest-requires-2 c κs = sum-none _ _ (c .before .before .before .before .pre)
+
+returns-2 : tie.Need-returns-2
+returns-2 c = search needs
 
 pub row-spec : {M : Type 1} → statement M
 row-spec =
     tie.close
     (tie.spec
-    Inv-loop
-    μ-loop
-    loop-holds
-    index-requires
-    mul-sum
-    shared-slice-read-sum
-    mul-sum-2
-    shared-slice-read-sum-2
-    add-e
-    loop-less
-    loop-again
-    returns)
+    sub-if1
+    term-requires
+    add-term
+    term-requires-2
+    add-term-2
+    term-requires-3
+    add-term-3
+    term-requires-4
+    add-term-4
+    term-requires-5
+    add-rest
+    rest-requires
+    returns
+    rest-requires-2
+    returns-2)
