@@ -1,5 +1,6 @@
 // Document 01's stand-ins for functions of binary64 numbers.
 
+pub mod distance;
 pub mod root;
 
 ghost use mathlib.Core.Path.{_≡_};

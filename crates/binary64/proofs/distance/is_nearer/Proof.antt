@@ -1,0 +1,30 @@
+-- `binary64::distance::is_nearer` meets its contract: both roots are taken and compared. Assumes nothing.
+use mathlib.Core.Path.{_≡_}
+use mathlib.Core.Bool.{true, false, _&&_}
+use borrow.Author.Needs.{needs}
+use lib.Ieee.{Float, lt}
+use Rattle.binary64.specs.Constants.{small}
+use Rattle.binary64.proofs.distance.is_nearer.Statement.{statement}
+use Rattle.binary64.proofs.distance.is_nearer.Tie as tie
+
+-- d and e are the roots a and b
+both : (d e a b : Float) → d ≡ a → e ≡ b → lt small d ≡ true → lt d e ≡ (lt small a && lt a b)
+both d e a b p q t = rw (← p, ← q, t)
+
+neither : (d a b : Float) → d ≡ a → lt small d ≡ false → false ≡ (lt small a && lt a b)
+neither d a b p t = rw (← p, t)
+
+sqrt-requires : tie.Need-sqrt-requires
+sqrt-requires c κs = search needs
+
+sqrt-requires-2 : tie.Need-sqrt-requires-2
+sqrt-requires-2 c κs = search needs
+
+returns : tie.Need-returns
+returns c = both _ _ _ _ (c .before .before .sqrt .ensures) (c .sqrt2 .ensures) (c .before .if1 .taken)
+
+returns-2 : tie.Need-returns-2
+returns-2 c = neither _ _ _ (c .before .sqrt .ensures) (c .if1 .left)
+
+pub is-nearer-spec : {M : Type 1} → statement M
+is-nearer-spec = tie.close (tie.spec sqrt-requires sqrt-requires-2 returns returns-2)

@@ -1,0 +1,27 @@
+// Distances by their squares: what is asked of a square's root.
+
+ghost use mathlib.Core.Path.{_≡_};
+ghost use mathlib.Core.Bool.{_&&_};
+ghost use lib.Ieee.{lt};
+ghost use Rattle.binary64.specs.Arith.{_⊘_};
+ghost use Rattle.binary64.specs.Constants.{small};
+ghost use Rattle.binary64.specs.Number.{ceilCount};
+ghost use Rattle.binary64.specs.Root.{root};
+
+// Whether the root of x is above 1e-12 and below the root of y.
+pub fn is_nearer(x: f64, y: f64) -> bool
+    ensures { λ r. ⌜ r ≡ (lt small (root x) && lt (root x) (root y)) ⌝ }
+{
+    let d = crate::root::sqrt(x);
+    if d > 1e-12 {
+        return d < crate::root::sqrt(y);
+    }
+    false
+}
+
+// In how many pieces the root of x is laid, each no longer than the spacing.
+pub fn pieces(x: f64, spacing: f64) -> usize
+    ensures { λ r. ⌜ r ≡ ceilCount (root x ⊘ spacing) ⌝ }
+{
+    crate::ceil_count(crate::root::sqrt(x) / spacing)
+}
