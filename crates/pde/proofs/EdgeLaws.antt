@@ -13,10 +13,10 @@ use Rattle.mesh.specs.Mesh.{corner, neighbour, onward}
 use Rattle.pde.specs.Search.{firstOf}
 use Rattle.pde.specs.SearchLaws.{leftOf, left-all, left-enter, left-skip, left-found, left-done}
 use Rattle.pde.specs.declared.Side.{Side}
+use Rattle.binary64.specs.Root.{root}
 use Rattle.plane.specs.declared.Point.{Point}
 use Rattle.pde.specs.declared.Exit.{Exit}
-use Rattle.pde.specs.declared.Nearest.{Nearest}
-use Rattle.pde.specs.Exit.{nearest, considered, nearestOf, orSide, namesBack, entryEdge, isCut, cutEdge, cutTriangle, cutMatch}
+use Rattle.pde.specs.Exit.{Nearest, nearest, considered, nearestOf, orSide, namesBack, entryEdge, isCut, cutEdge, cutTriangle, cutMatch}
 
 -- what is left of a search for a side, and then `rest`
 unfoldable pub sideLeft : Side → (ℕ → Side) → ℕ → ℕ → Side
@@ -94,8 +94,8 @@ unfolding div ofBits
 infinite = refl
 
 module _ (vs : List Float) (ts : List ℕ) (t : ℕ) (pos dir : Point) (entry : ℕ) where
-  pub nearest-none : nearest (one ⊘ plusZero) Exit.Nothing ≡ nearestOf vs ts t pos dir entry 0
-  unfolding nearestOf
+  pub nearest-none : nearest (root (one ⊘ plusZero)) Exit.Nothing ≡ nearestOf vs ts t pos dir entry 0
+  unfolding nearestOf root
   nearest-none = rw infinite
 
   pub nearest-step : (e : ℕ) {best next : Nearest} → next ≡ considered vs ts t pos dir entry e best → best ≡ nearestOf vs ts t pos dir entry e → next ≡ nearestOf vs ts t pos dir entry (e + 1)

@@ -10,11 +10,10 @@ use Rattle.binary64.specs.Arith.{_⊘_}
 use Rattle.binary64.specs.Number.{ceilCount}
 use Rattle.plane.specs.declared.Point.{Point}
 use Rattle.pde.specs.declared.Exit.{Exit}
-use Rattle.pde.specs.declared.Nearest.{Nearest}
 use Rattle.pde.specs.declared.Beyond.{Beyond}
 use Rattle.pde.specs.declared.Crossing.{Crossing}
 use Rattle.pde.specs.declared.Rule.{Rule}
-use Rattle.pde.specs.Exit.{distance, nearestOf, entryEdge, cutMatch}
+use Rattle.pde.specs.Exit.{Nearest, distance, nearestOf, entryEdge, cutMatch}
 use Rattle.pde.specs.Crossing.{gradientAt, magnitude, direction, entered, beyond, pieces, left, crossing}
 use Rattle.pde.specs.declared.Side.{Side}
 use Rattle.pde.specs.Bounds.{SideIn, Neighbouring, exit-far, cut-in, entry-in}

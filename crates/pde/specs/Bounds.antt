@@ -15,14 +15,13 @@ use Rattle.plane.specs.Plane.{rayLineIntersection}
 use Rattle.mesh.specs.Mesh.{vertex, corner, neighbour, noNeighbour, onward}
 use Rattle.pde.specs.Search.{firstOf}
 use Rattle.pde.specs.declared.Exit.{Exit}
-use Rattle.pde.specs.declared.Nearest.{Nearest}
 use Rattle.pde.specs.declared.Side.{Side}
 use Rattle.pde.specs.declared.Beyond.{Beyond}
 use Rattle.pde.specs.declared.Crossing.{Crossing}
 use Rattle.pde.specs.declared.Rule.{Rule}
 use Rattle.pde.specs.declared.Start.{Start}
 use Rattle.pde.specs.Start.{noEdge, orElse, contains, containedIn, triangleContaining, isInner, middle, innerEdge, innerEdgeOf, firstInner, leastVertex, has, centroid, centroidWith, firstWith, pickStart}
-use Rattle.pde.specs.Exit.{distance, orSide, isCut, offered, considered, nearestOf, exitEdge, namesBack, entryEdge, cutEdge, cutTriangle, cutMatch, nearest}
+use Rattle.pde.specs.Exit.{Nearest, distance, orSide, isCut, offered, considered, nearestOf, exitEdge, namesBack, entryEdge, cutEdge, cutTriangle, cutMatch, nearest}
 use Rattle.pde.specs.Crossing.{gradientAt, magnitude, direction, valueIn, entering, entered, unentered, beyond, left, crossing}
 
 -- ---- where an answer points

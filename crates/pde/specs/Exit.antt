@@ -13,18 +13,26 @@ use Rattle.plane.specs.declared.Hit.{Hit}
 use Rattle.plane.specs.Plane.{rayLineIntersection}
 use Rattle.mesh.specs.Mesh.{vertex, corner, neighbour, noNeighbour, onward}
 use Rattle.pde.specs.Search.{firstOf}
+use Rattle.pde.specs.declared.Candidate.{Candidate}
 use Rattle.pde.specs.declared.Exit.{Exit}
-use Rattle.pde.specs.declared.Nearest.{Nearest}
 use Rattle.pde.specs.declared.Side.{Side}
 
--- the distance of two points
-unfoldable pub distance : Point → Point → Float
-distance p q =
+-- the distance of two points, and its square
+abbrev pub squared : Point → Point → Float
+squared p q =
     let dx = q .x ⊖ p .x in
     let dy = q .y ⊖ p .y in
-    root (dx ⊗ dx ⊕ dy ⊗ dy)
+    dx ⊗ dx ⊕ dy ⊗ dy
+
+unfoldable pub distance : Point → Point → Float
+distance p q = root (squared p q)
 
 -- ---- the exit
+
+-- the nearest exit so far, and how far it is
+pub record Nearest : Type 0 where
+  pub far : Float
+  pub exit : Exit
 
 abbrev pub nearest : Float → Exit → Nearest
 nearest d e = record { far = d; exit = e }
@@ -46,6 +54,10 @@ nearestOf vs ts t pos dir entry (suc e) = considered vs ts t pos dir entry e (ne
 
 abbrev pub exitEdge : List Float → List ℕ → ℕ → Point → Point → ℕ → Exit
 exitEdge vs ts t pos dir entry = nearestOf vs ts t pos dir entry 3 .exit
+
+-- the same of one whose distance is known by its square
+abbrev pub rooted : Candidate → Nearest
+rooted c = nearest (root (c .square)) (c .exit)
 
 -- ---- the edge beyond
 

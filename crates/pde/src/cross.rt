@@ -158,6 +158,6 @@ pub fn crossing(
     let Exit::Through(e, p) = exit else {
         return Crossing::Stuck;
     };
-    let n = binary64::ceil_count(best.far / rule.spacing);
+    let n = binary64::distance::pieces(best.square, rule.spacing);
     Crossing::Leaves(p, n, beyond(floats, words, m, u, rule.above, t, e, p))
 }

@@ -1,6 +1,6 @@
 // Where a ray leaves a triangle, and which edge is entered beyond.
+use super::Candidate;
 use super::Exit;
-use super::Nearest;
 use super::Side;
 use mesh::Mesh;
 use plane::Hit;
@@ -10,29 +10,34 @@ ghost use Prim.Native.Nat.{_<_};
 ghost use Rattle.mesh.specs.Work.{verticesOf, trianglesOf, neighboursOf, Linked, Meshed};
 ghost use Rattle.pde.specs.Exit as Exits;
 
-pub fn distance(p: Point, q: Point) -> f64
-    ensures { λ r. ⌜ r ≡ Exits.distance p q ⌝ }
+// The square of the distance of two points.
+fn squared(p: Point, q: Point) -> f64
+    ensures { λ r. ⌜ r ≡ Exits.squared p q ⌝ }
 {
     let dx = q.x - p.x;
     let dy = q.y - p.y;
-    binary64::root::sqrt(dx * dx + dy * dy)
+    dx * dx + dy * dy
+}
+
+pub fn distance(p: Point, q: Point) -> f64
+    ensures { λ r. ⌜ r ≡ Exits.distance p q ⌝ }
+{
+    binary64::root::sqrt(squared(p, q))
 }
 
 // The nearer of a hit on edge e, if it is farther than 1e-12, and the best so far.
-fn offered(pos: Point, e: usize, hit: Hit, best: Nearest) -> Nearest
-    ensures { λ r. ⌜ r ≡ Exits.offered pos e hit best ⌝ }
+fn offered(pos: Point, e: usize, hit: Hit, best: Candidate) -> Candidate
+    ensures { λ r. ⌜ Exits.rooted r ≡ Exits.offered pos e hit (Exits.rooted best) ⌝ }
 {
     let Hit::At(p) = hit else {
         return best;
     };
-    let d = distance(pos, p);
-    if d > 1e-12 {
-        if d < best.far {
-            return Nearest {
-                far: d,
-                exit: Exit::Through(e, p),
-            };
-        }
+    let square = squared(pos, p);
+    if binary64::distance::is_nearer(square, best.square) {
+        return Candidate {
+            square,
+            exit: Exit::Through(e, p),
+        };
     }
     best
 }
@@ -47,10 +52,10 @@ fn considered(
     dir: Point,
     entry: usize,
     e: usize,
-    best: Nearest,
-) -> Nearest
+    best: Candidate,
+) -> Candidate
     requires { ⌜ (Meshed (now floats) (now words) m) × (t < m .t) × (e < 3) ⌝ }
-    ensures { λ r. ⌜ r ≡ Exits.considered (verticesOf (now (floats .entry)) m) (trianglesOf (now (words .entry)) m) t pos dir entry e best ⌝ }
+    ensures { λ r. ⌜ Exits.rooted r ≡ Exits.considered (verticesOf (now (floats .entry)) m) (trianglesOf (now (words .entry)) m) t pos dir entry e (Exits.rooted best) ⌝ }
 {
     if e == entry {
         return best;
@@ -64,7 +69,7 @@ fn considered(
     offered(pos, e, hit, best)
 }
 
-// The nearest edge that the ray from `pos` along `dir` meets in triangle t, with the point and how far it is.
+// The nearest edge that the ray from `pos` along `dir` meets in triangle t, with the point and the square of how far it is.
 pub fn find_exit_edge(
     floats: &[f64],
     words: &[u32],
@@ -73,12 +78,12 @@ pub fn find_exit_edge(
     pos: Point,
     dir: Point,
     entry: usize,
-) -> Nearest
+) -> Candidate
     requires { ⌜ (Meshed (now floats) (now words) m) × (t < m .t) ⌝ }
-    ensures { λ r. ⌜ r ≡ Exits.nearestOf (verticesOf (now (floats .entry)) m) (trianglesOf (now (words .entry)) m) t pos dir entry 3 ⌝ }
+    ensures { λ r. ⌜ Exits.rooted r ≡ Exits.nearestOf (verticesOf (now (floats .entry)) m) (trianglesOf (now (words .entry)) m) t pos dir entry 3 ⌝ }
 {
-    let mut best = Nearest {
-        far: 1.0 / 0.0,
+    let mut best = Candidate {
+        square: 1.0 / 0.0,
         exit: Exit::Nothing,
     };
     for e in 0..3usize {

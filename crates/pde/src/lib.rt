@@ -18,9 +18,9 @@ pub enum Exit {
     Nothing,
 }
 
-// The nearest exit so far, and how far it is.
-pub struct Nearest {
-    pub far: f64,
+// The nearest exit so far, and the square of how far it is.
+pub struct Candidate {
+    pub square: f64,
     pub exit: Exit,
 }
 
@@ -53,11 +53,11 @@ pub struct Rule {
     pub spacing: f64,
 }
 
-// Where the path stands: its position, triangle and entry edge, how many points it has, and its end.
+// Where the path stands: its position and triangle, how many points it has, the edge by which it came into the triangle, and its end.
 pub struct Walk {
     pub position: Point,
     pub triangle: usize,
-    pub edge: usize,
     pub points: usize,
+    pub edge: usize,
     pub end: usize,
 }

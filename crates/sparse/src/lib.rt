@@ -90,6 +90,31 @@ fn rest(
     sum
 }
 
+// The same, with the next two entries, which most rows have at the most, before the loop.
+fn rest_of_few(
+    cols: &[u32],
+    values: &[f64],
+    x: &[f64],
+    from: usize,
+    first: usize,
+    to: usize,
+    partial: f64,
+) -> f64
+    requires { ⌜ Product.PartialSum (now cols) (now values) (now x) from to first partial ⌝ }
+    ensures { λ r. ⌜ r ≡ rowProduct (entries (part (now (cols .entry)) from (to - from)) (part (now (values .entry)) from (to - from))) (now (x .entry)) ⌝ }
+{
+    if first == to {
+        return partial;
+    }
+    let a = term(cols, values, x, first, partial);
+    let second = first + 1;
+    if second == to {
+        return a;
+    }
+    let b = term(cols, values, x, second, a);
+    rest(cols, values, x, from, second + 1, to, b)
+}
+
 // The product of a row, the entries from `from` up to `to`, with x.
 fn row(cols: &[u32], values: &[f64], x: &[f64], from: usize, to: usize) -> f64
     requires { ⌜ Product.Row (now cols) (length (now values)) (length (now x)) from to ⌝ }
@@ -101,7 +126,7 @@ fn row(cols: &[u32], values: &[f64], x: &[f64], from: usize, to: usize) -> f64
         let c = term(cols, values, x, from + 2, b);
         let d = term(cols, values, x, from + 3, c);
         let e = term(cols, values, x, from + 4, d);
-        return rest(cols, values, x, from, from + 5, to, e);
+        return rest_of_few(cols, values, x, from, from + 5, to, e);
     }
     rest(cols, values, x, from, from, to, 0.0)
 }

@@ -36,11 +36,11 @@ add-term-4 c = search needs
 term-requires-5 : tie.Need-term-requires-5
 term-requires-5 c κs = entry-fits _ (c .before .before .before .before .before .before .before .before .pre) (omega arith) (omega arith)
 
-add-rest : tie.Need-add-rest
-add-rest c = search needs
+add-rest-of-few : tie.Need-add-rest-of-few
+add-rest-of-few c = search needs
 
-rest-requires : tie.Need-rest-requires
-rest-requires c κs =
+rest-of-few-requires : tie.Need-rest-of-few-requires
+rest-of-few-requires c κs =
     let four = c .before in
     let three = four .before in
     let two = three .before in
@@ -57,8 +57,8 @@ rest-requires c κs =
 returns : tie.Need-returns
 returns c = search needs
 
-rest-requires-2 : tie.Need-rest-requires-2
-rest-requires-2 c κs = sum-none _ _ (c .before .before .before .before .pre)
+rest-requires : tie.Need-rest-requires
+rest-requires c κs = sum-none _ _ (c .before .before .before .before .pre)
 
 returns-2 : tie.Need-returns-2
 returns-2 c = search needs
@@ -77,8 +77,8 @@ row-spec =
     term-requires-4
     add-term-4
     term-requires-5
-    add-rest
-    rest-requires
+    add-rest-of-few
+    rest-of-few-requires
     returns
-    rest-requires-2
+    rest-requires
     returns-2)

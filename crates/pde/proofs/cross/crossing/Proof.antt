@@ -1,7 +1,9 @@
 -- `cross::crossing` meets its contract: gradient, magnitude, direction, exit and what lies beyond are what the calls ensure, and the nearest exit's distance is the way that is laid in pieces. Assumes nothing.
+use mathlib.Core.Path.{sym, ap, subst}
 use borrow.Author.Needs.{needs}
 use Rattle.pde.specs.Crossing.{crossing}
-use Rattle.pde.specs.Bounds.{exit-in, exit-of}
+use Rattle.pde.specs.Exit.{Nearest}
+use Rattle.pde.specs.Bounds.{ExitIn, exit-in, exit-of}
 use Rattle.pde.proofs.LeavingLaws.{crossing-stuck, crossing-leaves}
 use Rattle.pde.proofs.cross.crossing.Statement.{statement}
 use Rattle.pde.proofs.cross.crossing.Tie as tie
@@ -34,20 +36,20 @@ returns-2 c =
     (c .before .before .before .before .before .before .before .gradient-at .ensures) (c .before .before .before .before .before .before .magnitude .ensures) (c .before .before .before .before .if1 .left) (c .before .before .before .direction .ensures) (c .before .before .find-exit-edge .ensures)
     (c .enum-told .given .1)
 
-ceil-count-requires : tie.Need-ceil-count-requires
-ceil-count-requires c κs = search needs
+pieces-requires : tie.Need-pieces-requires
+pieces-requires c κs = search needs
 
 beyond-requires : tie.Need-beyond-requires
 beyond-requires c κs =
-    let p = c .before .before .before .before .before .before .before .before .before .before .before .before .before .before .pre in
-    let found = c .before .before .before .before .before .before .find-exit-edge .ensures in
-    (p .0 .fielded, p .1, exit-of (rw found (exit-in _ _ _ _ _ _)) (c .before .before .before .before .exit .given .1))
+    let p = c .before .before .before .before .before .before .before .before .before .before .before .before .pre in
+    let found = c .before .before .before .before .find-exit-edge .ensures in
+    (p .0 .fielded, p .1, exit-of (subst ExitIn (sym (ap (λ (n : Nearest). n .exit) found)) (exit-in _ _ _ _ _ _)) (c .before .before .exit .given .1))
 
 returns-3 : tie.Need-returns-3
 returns-3 c =
     crossing-leaves _ _ _ _ _ _ _ _ _ _ _
-    (c .before .before .before .before .before .before .before .before .before .before .before .before .gradient-at .ensures) (c .before .before .before .before .before .before .before .before .before .before .before .magnitude .ensures) (c .before .before .before .before .before .before .before .before .before .if1 .left) (c .before .before .before .before .before .before .before .before .direction .ensures) (c .before .before .before .before .before .before .before .find-exit-edge .ensures)
-    (c .before .before .before .before .before .exit .given .1) (c .before .ceil-count .ensures) (c .beyond .ensures)
+    (c .before .before .before .before .before .before .before .before .before .before .gradient-at .ensures) (c .before .before .before .before .before .before .before .before .before .magnitude .ensures) (c .before .before .before .before .before .before .before .if1 .left) (c .before .before .before .before .before .before .direction .ensures) (c .before .before .before .before .before .find-exit-edge .ensures)
+    (c .before .before .before .exit .given .1) (c .before .pieces .ensures) (c .beyond .ensures)
 
 pub crossing-spec : {M : Type 1} → statement M
 crossing-spec =
@@ -61,6 +63,6 @@ crossing-spec =
     enum-known-exit
     enum-told
     returns-2
-    ceil-count-requires
+    pieces-requires
     beyond-requires
     returns-3)

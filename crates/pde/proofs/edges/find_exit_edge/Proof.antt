@@ -4,13 +4,13 @@ use Prim.Native.Nat.{_-_, _≤_}
 use native.Mathlib.Omega.{arith}
 use borrow.Author.Needs.{needs}
 use Rattle.mesh.specs.Work.{verticesOf, trianglesOf}
-use Rattle.pde.specs.Exit.{nearestOf}
+use Rattle.pde.specs.Exit.{nearestOf, rooted}
 use Rattle.pde.proofs.EdgeLaws.{nearest-none, nearest-step, nearest-done}
 use Rattle.pde.proofs.edges.find_exit_edge.Statement.{statement}
 use Rattle.pde.proofs.edges.find_exit_edge.Tie as tie
 
 abbrev Inv-loop : tie.InvT-loop
-Inv-loop floats words m t pos dir entry best₀ e₀ best e = (e ≤ 3) × (best ≡ nearestOf (verticesOf floats m) (trianglesOf words m) t pos dir entry e)
+Inv-loop floats words m t pos dir entry best₀ e₀ best e = (e ≤ 3) × (rooted best ≡ nearestOf (verticesOf floats m) (trianglesOf words m) t pos dir entry e)
 
 abbrev μ-loop : tie.MeasureT-loop
 μ-loop floats words m t pos dir entry best₀ e₀ best e = 3 - e

@@ -1,5 +1,6 @@
--- `edges::offered` meets its contract: where there is a hit, the definition picks by the same two comparisons of its distance. Assumes nothing.
+-- `edges::offered` meets its contract: where there is a hit, the definition picks by the same two comparisons of its distance, which `is_nearer` decides from the square. Assumes nothing.
 use borrow.Author.Needs.{needs}
+use Rattle.pde.specs.Exit.{distance}
 use Rattle.pde.proofs.edges.offered.Statement.{statement}
 use Rattle.pde.proofs.edges.offered.Tie as tie
 
@@ -10,21 +11,30 @@ enum-told : tie.Need-enum-told
 enum-told c = search needs
 
 returns : tie.Need-returns
-returns c = search needs
+returns c = rw (c .enum-told .given .1)
 
-distance-requires : tie.Need-distance-requires
-distance-requires c κs = search needs
+squared-requires : tie.Need-squared-requires
+squared-requires c κs = search needs
+
+is-nearer-requires : tie.Need-is-nearer-requires
+is-nearer-requires c κs = search needs
 
 returns-2 : tie.Need-returns-2
-returns-2 c = rw (c .before .before .before .before .before .hit .given .1, ← c .before .before .before .distance .ensures, c .before .before .if1 .taken, c .if2 .taken)
+unfolding distance
+returns-2 c = rw (c .before .before .before .before .hit .given .1, ← c .before .before .squared .ensures, ← c .before .is-nearer .ensures, c .if1 .taken)
 
 returns-3 : tie.Need-returns-3
-returns-3 c = rw (c .before .before .before .before .before .hit .given .1, ← c .before .before .before .distance .ensures, c .before .before .if1 .taken, c .if2 .left)
-
-returns-4 : tie.Need-returns-4
-returns-4 c = rw (c .before .before .before .hit .given .1, ← c .before .distance .ensures, c .if1 .left)
+unfolding distance
+returns-3 c = rw (c .before .before .before .before .hit .given .1, ← c .before .before .squared .ensures, ← c .before .is-nearer .ensures, c .if1 .left)
 
 pub offered-spec : {M : Type 1} → statement M
 offered-spec =
     tie.close
-    (tie.spec enum-known-hit enum-told returns distance-requires returns-2 returns-3 returns-4)
+    (tie.spec
+    enum-known-hit
+    enum-told
+    returns
+    squared-requires
+    is-nearer-requires
+    returns-2
+    returns-3)
