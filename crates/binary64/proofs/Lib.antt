@@ -4,6 +4,7 @@ pub mod Nearest
 pub mod Patterns
 pub mod RootGuess
 pub mod RootLaws
+pub mod RootOrder
 pub mod RootSamples
 pub mod Units
 pub mod WholeRoot

@@ -47,7 +47,7 @@ units-rise a (suc d) =
     let e : a + suc d ≡ a + d + 1 = omega arith in
     rw e (le-trans (units-rise a d) (le-of-lt (units-next (a + d))))
 
-units-mono : (a b : ℕ) → a ≤ b → units a ≤ units b
+pub units-mono : (a b : ℕ) → a ≤ b → units a ≤ units b
 units-mono a b h = let e : b ≡ a + (b - a) = omega arith in subst (λ (x : ℕ). units a ≤ units x) (sym e) (units-rise a (b - a))
 
 -- ---- one pattern at most

@@ -1,4 +1,4 @@
-// Distances by their squares: what is asked of a square's root.
+// Distances by their squares: what is asked of a square's root, which is taken only where the square does not tell.
 
 ghost use mathlib.Core.Path.{_≡_};
 ghost use mathlib.Core.Bool.{_&&_};
@@ -12,6 +12,10 @@ ghost use Rattle.binary64.specs.Root.{root};
 pub fn is_nearer(x: f64, y: f64) -> bool
     ensures { λ r. ⌜ r ≡ (lt small (root x) && lt (root x) (root y)) ⌝ }
 {
+    // the first one found: the root of an infinite y is infinite
+    if (1e-20 < x) & (x < y) & (y == 1.0 / 0.0) {
+        return true;
+    }
     let d = crate::root::sqrt(x);
     if d > 1e-12 {
         return d < crate::root::sqrt(y);
