@@ -2,18 +2,21 @@
 -- So a root from 1e-20 on is above 1e-12 and below infinity, and the root of what is below the rounded square of a spacing is at most the spacing, which makes one piece. Assumes nothing.
 use mathlib.Core.Path.{_≡_, refl, sym, ap, _∙_, subst}
 use mathlib.Core.Bool.{Bool, true, false, true≢false, false≢true, _&&_, _||_}
-use Prim.Native.Nat.{ℕ, zero, suc, _+_, _-_, _*_, _/_, _%_, _^_, _≤_, _<_}
-use native.Mathlib.Nat.{le-trans, le-of-eq, le-of-lt, lt-irrefl, lt-of-lt-of-le, lt-of-le-of-lt, not-le-of-lt, mul-one, add-le-add, mul-le-mul, mul-le-mul-left, mul-pos, mul-lt-mul-of-pos-right, lt-of-mul-lt-mul-right}
+use Prim.Native.Nat.{ℕ, zero, suc, _+_, _-_, _*_, _/_, _%_, _^_, _≤_, _<_, min}
+use native.Mathlib.Nat.{le-trans, le-of-eq, le-of-lt, lt-irrefl, lt-of-lt-of-le, lt-of-le-of-lt, not-le-of-lt, mul-one, add-le-add, mul-le-mul, mul-le-mul-left, mul-le-mul-right, mul-pos, mul-lt-mul-of-pos-right, lt-of-mul-lt-mul-right, div-eq-of-lt-le}
 use native.Mathlib.Omega.{arith}
 use borrow.Author.Tests.{ltb-true, lt-ltb, ne-eqb}
-use lib.Dec.{T, lit≤, lit<}
-use lib.Pow.{pow-pos}
-use lib.Ieee.{Float, nan, inf, fin, binary64, up, down, odd, fits, ofFields, ofBits, toBits, lt, le, eq, div}
+use lib.IntN.{pos, negsuc}
+use lib.Dec.{T, lit≤, lit<, ltb→lt}
+use lib.Pow.{pow-pos, pow-mono, shl-lt}
+use lib.Ieee.{Float, nan, inf, fin, binary64, up, down, odd, fits, ofFields, ofBits, toBits, lt, le, eq, div, mul, round}
 use lib.Ieee.Bits.{ofBits-toBits, ofBits-fits}
-use lib.Ieee.Exact.{HasValue, odd-sign}
-use lib.Ieee.Fits.{down-pos}
-use lib.Ieee.Positive.{positive, above, above-of-le, positive-of-value}
+use lib.Ieee.Exact.{HasValue, odd-sign, round-exact}
+use lib.Ieee.Fits.{up-pos, down-pos}
+use lib.Ieee.Order.{le-of-values, round-mono}
+use lib.Ieee.Positive.{num, den, den-pos, own-value, positive, above, above-of-le, positive-of-value, value-pos, between, mul-at, le→cross, le-trans-positive}
 use Rattle.binary64.specs.Constants.{small}
+use Rattle.binary64.specs.Number.{quotientUp, ceilCount}
 use Rattle.binary64.specs.Root.{root, rootOf, weight, units, square, Between}
 use Rattle.binary64.proofs.Units.{units-is, units-next, units-mono}
 use Rattle.binary64.proofs.Patterns.{bits-plus, pattern-range}
@@ -72,6 +75,16 @@ lt-bits a b k l h =
     let u = values-of-lt (units a) (units b) (2 ^ 1074) _ _ (pow-pos 1074) (bits-value a k) (bits-value b l) h in
     let n : ¬ (b ≤ a) = λ g. not-le-of-lt u (units-mono b a g) in
     omega arith
+
+lt→cross : (x y : Float) → T (positive x) → T (positive y) → lt x y ≡ true → num x * den y < num y * den x
+unfolding lt
+lt→cross nan y p q h = absurd p
+lt→cross (inf s) y p q h = absurd p
+lt→cross (fin true m e) y p q h = absurd p
+lt→cross (fin false m e) nan p q h = absurd q
+lt→cross (fin false m e) (inf t) p q h = absurd q
+lt→cross (fin false m e) (fin true n d) p q h = absurd q
+lt→cross (fin false m e) (fin false n d) p q h = ltb-true _ _ h
 
 -- ---- a value above a positive one and below any
 
@@ -142,6 +155,10 @@ low-positive : T (positive (ofBits binary64 low))
 unfolding ofBits
 low-positive = tt
 
+floor-positive : T (positive (ofBits binary64 floor))
+unfolding ofBits
+floor-positive = tt
+
 -- the pattern of its root
 record Rooted (x : Float) (r : ℕ) : Type 0 where
   pub is : root x ≡ ofBits binary64 r
@@ -201,3 +218,131 @@ first-nearer x y h t =
     let i : root y ≡ inf false = ap root (infinite y (subst (λ (v : Float). eq y v ≡ true) infinity-is (s .2))) ∙ root-infinity in
     let a : lt small (ofBits binary64 n) ≡ true = bits-lt 0x3d71_9799_812d_ea11 n (r .most) (lt-of-lt-of-le (lit< tt) (r .least)) in
     rw (r .is, i, a, bits-under n (r .most))
+
+-- ---- a square below the rounded square of a spacing
+
+-- a double is what its own value is rounded to
+fields-exact : (f t : ℕ) → f < 2047 → t < 2 ^ 52 → HasValue (round binary64 false (weight f t) (2 ^ 1074)) false (weight f t) (2 ^ 1074)
+unfolding weight
+fields-exact zero t l h = round-exact binary64 false t (2 ^ 1074) t 0 (pow-pos 1074) (omega arith) (lt-of-le-of-lt (le-of-eq (mul-one t)) (lt-of-lt-of-le h (lit≤ tt))) (ap (λ (z : ℕ). z * 2 ^ 1074) (sym (mul-one t)))
+fields-exact (suc f) t l h =
+    let m : 2 ^ 52 + t < 2 ^ 53 = omega arith in
+    round-exact binary64 false ((2 ^ 52 + t) * 2 ^ f) (2 ^ 1074) (2 ^ 52 + t) f (pow-pos 1074) m (lt-of-lt-of-le (shl-lt 53 f m) (pow-mono {i = 53 + f} {j = 2098} (omega arith))) refl
+
+bits-exact : (b : ℕ) → b < 2047 * 2 ^ 52 → HasValue (round binary64 false (units b) (2 ^ 1074)) false (units b) (2 ^ 1074)
+bits-exact b l = rw (units-is b (b / 2 ^ 52) (b % 2 ^ 52) refl refl) (fields-exact (b / 2 ^ 52) (b % 2 ^ 52) (omega arith) (omega arith))
+
+value : (x : Float) → T (fits binary64 x) → T (positive x) → HasValue x false (units (toBits binary64 x)) (2 ^ 1074)
+value x h p =
+    subst (λ (v : Float). HasValue v false (units (toBits binary64 x)) (2 ^ 1074)) (ofBits-toBits binary64 x h) (bits-value (toBits binary64 x) (pattern-range x h p .1))
+
+-- x is not above the square itself
+module _ (x s : Float) (a b c : ℕ) (above : 0 < c) (p : T (positive x)) (q : T (positive s)) (u : HasValue x false a c) (v : HasValue s false b c) (own : HasValue (round binary64 false a c) false a c) where
+  square-reaches : lt x (mul binary64 s s) ≡ true → c * a ≤ b * b
+  square-reaches h =
+      let y = mul binary64 s s in
+      let z = round binary64 false a c in
+      let n : ¬ (b * b < c * a) = λ g.
+      let i : b * b * c ≤ a * (c * c) = le-trans (mul-le-mul-right c (le-of-lt g)) (le-of-eq (omega arith)) in
+      let k : T (le y z) = subst (λ (w : Float). T (le w z)) (sym (mul-at binary64 s s b c b c q q above above v v)) (round-mono binary64 (b * b) (c * c) a c (mul-pos above above) above i) in
+      let o : T (positive z) = positive-of-value z a c own (value-pos x a c p above u) in
+      let w : T (positive y) = between x y z p o (lt→le x y h) k in
+      let d : T (le z x) = le-of-values z x a c a c above above own u (le-of-eq refl) in
+      not-le-of-lt (lt→cross x y p w h) (le→cross y x w p (le-trans-positive y z x w o p k d)) in
+      omega arith
+
+-- ---- a root that is no longer than the spacing is one piece
+
+div-is : (x y : Float) → T (positive x) → T (positive y) → div binary64 x y ≡ round binary64 false (num x * den y) (num y * den x)
+unfolding div
+div-is nan y p q = absurd p
+div-is (inf s) y p q = absurd p
+div-is (fin true m e) y p q = absurd p
+div-is (fin false m e) nan p q = absurd q
+div-is (fin false m e) (inf t) p q = absurd q
+div-is (fin false m e) (fin true n d) p q = absurd q
+div-is (fin false m e) (fin false n d) p q = let l = ltb→lt 0 n q in rw (ne-eqb n 0 (omega arith))
+
+one-up : (a d : ℕ) → 0 < a → a ≤ d → 1 ≡ min (quotientUp a d) (2 ^ 64 - 1)
+one-up a d p h =
+    let q : quotientUp a d ≡ 1 = div-eq-of-lt-le d (omega arith) (omega arith) in
+    omega arith
+
+one-count : (q : Float) → T (positive q) → T (le q (fin false 1 (pos 0))) → 1 ≡ ceilCount q
+unfolding ceilCount
+one-count nan p h = absurd p
+one-count (inf s) p h = absurd p
+one-count (fin true m e) p h = absurd p
+one-count (fin false m e) p h =
+    let l = le→cross (fin false m e) (fin false 1 (pos 0)) p tt h in
+    one-up (m * up e) (down e) (mul-pos (ltb→lt 0 m p) (up-pos e)) (omega arith)
+
+one-rounds : round binary64 false 1 1 ≡ fin false 1 (pos 0)
+unfolding round
+one-rounds = refl
+
+least-rounds : T (positive (round binary64 false 1 (2 ^ 54)))
+unfolding round
+least-rounds = tt
+
+-- the quotient of a d from 2^−34 on and an s of at most 1e6 is at least 2^−54
+module _ (d s : Float) (p : T (positive d)) (q : T (positive s)) (long : den d ≤ num d * 2 ^ 34) (less : num s ≤ 1000000 * den s) (h : T (le d s)) where
+  one-piece : 1 ≡ ceilCount (div binary64 d s)
+  one-piece =
+      let a = num d * den s in
+      let c = num s * den d in
+      let k : a ≤ c = le→cross d s p q h in
+      let A : 0 < a = mul-pos (value-pos d (num d) (den d) p (den-pos d) (own-value d p)) (den-pos s) in
+      let C : 0 < c = omega arith in
+      let f : num s * den d ≤ 1000000 * den s * (num d * 2 ^ 34) = mul-le-mul less long in
+      let u : T (le (round binary64 false a c) (fin false 1 (pos 0))) = subst (λ (z : Float). T (le (round binary64 false a c) z)) one-rounds (round-mono binary64 a c 1 1 C (lit< tt) (omega arith)) in
+      let l : T (le (round binary64 false 1 (2 ^ 54)) (round binary64 false a c)) = round-mono binary64 1 (2 ^ 54) a c (pow-pos 54) C (omega arith) in
+      rw (div-is d s p q) (one-count (round binary64 false a c) (between _ _ (fin false 1 (pos 0)) least-rounds tt l u) u)
+
+-- 1e-6 and 1e6
+abbrev shortest : ℕ
+shortest = 0x3eb0_c6f7_a0b5_ed8d
+
+abbrev longest : ℕ
+longest = 0x412e_8480_0000_0000
+
+shortest-positive : T (positive (ofBits binary64 shortest))
+unfolding ofBits
+shortest-positive = tt
+
+under-longest : (s : Float) → T (positive s) → lt s (ofBits binary64 longest) ≡ true → num s ≤ 1000000 * den s
+unfolding ofBits
+under-longest s p h = let l = lt→cross s (fin false 15625 (pos 6)) p tt h in omega arith
+
+over-floor : (d : Float) → T (positive d) → T (le (ofBits binary64 floor) d) → den d ≤ num d * 2 ^ 34
+unfolding ofBits
+over-floor d p h = let l = le→cross (fin false 1 (negsuc 33)) d tt p h in omega arith
+
+both : (a b : Bool) → (a && b) ≡ true → (a ≡ true) × (b ≡ true)
+both true true h = (refl, refl)
+both true false h = absurd (false≢true h)
+both false b h = absurd (false≢true h)
+
+le-bits : (a b : ℕ) → b < 2047 * 2 ^ 52 → a ≤ b → T (le (ofBits binary64 a) (ofBits binary64 b))
+le-bits a b l h =
+    le-of-values _ _ (units a) (2 ^ 1074) (units b) (2 ^ 1074) (pow-pos 1074) (pow-pos 1074) (bits-value a (omega arith)) (bits-value b l) (mul-le-mul-right (2 ^ 1074) (units-mono a b h))
+
+pub short-one : (x s : Float) → T (fits binary64 x) → T (fits binary64 s)
+    → (lt (ofBits binary64 low) x && lt x (mul binary64 s s) && lt (ofBits binary64 shortest) s && lt s (ofBits binary64 longest)) ≡ true → 1 ≡ ceilCount (div binary64 (root x) s)
+short-one x s h k t =
+    let t3 = both _ _ t in
+    let t2 = both _ _ (t3 .0) in
+    let t1 = both _ _ (t2 .0) in
+    let p = lt-positive (ofBits binary64 low) x (mul binary64 s s) low-positive (t1 .0) (t1 .1) in
+    let q = lt-positive (ofBits binary64 shortest) s (ofBits binary64 longest) shortest-positive (t2 .1) (t3 .1) in
+    let r = rooted x (mul binary64 s s) h (t1 .0) (t1 .1) in
+    let b = toBits binary64 s in
+    let l = pattern-range s k q .1 in
+    let m : toBits binary64 (root x) ≤ b =
+    root-at-most x h p b
+    (square-reaches x s (units (toBits binary64 x)) (units b) (2 ^ 1074) (pow-pos 1074) p q (value x h p) (value s k q) (bits-exact (toBits binary64 x) (pattern-range x h p .1)) (t1 .1)) in
+    let e : T (le (ofBits binary64 floor) (root x)) = subst (λ (v : Float). T (le (ofBits binary64 floor) v)) (sym (r .is)) (le-bits floor (toBits binary64 (root x)) (r .most) (r .least)) in
+    let g : T (le (root x) (ofBits binary64 b)) = subst (λ (v : Float). T (le v (ofBits binary64 b))) (sym (r .is)) (le-bits (toBits binary64 (root x)) b l m) in
+    let f : T (le (root x) s) = subst (λ (v : Float). T (le (root x) v)) (ofBits-toBits binary64 s k) g in
+    let d = between (ofBits binary64 floor) (root x) s floor-positive q e f in
+    one-piece (root x) s d q (over-floor (root x) d e) (under-longest s q (t3 .1)) f

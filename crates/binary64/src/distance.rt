@@ -27,5 +27,9 @@ pub fn is_nearer(x: f64, y: f64) -> bool
 pub fn pieces(x: f64, spacing: f64) -> usize
     ensures { λ r. ⌜ r ≡ ceilCount (root x ⊘ spacing) ⌝ }
 {
+    // the root is at most the spacing, and above 0
+    if (1e-20 < x) & (x < spacing * spacing) & (1e-6 < spacing) & (spacing < 1e6) {
+        return 1;
+    }
     crate::ceil_count(crate::root::sqrt(x) / spacing)
 }
