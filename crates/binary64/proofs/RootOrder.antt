@@ -1,16 +1,16 @@
 -- What the square of a distance tells of its root: the root is at most any double whose square is not below the operand, and at least any whose square is not above it.
--- So a root from 1e-20 on is above 1e-12 and below infinity, and the root of what is below the rounded square of a spacing is at most the spacing, which makes one piece. Assumes nothing.
+-- So the root of what is above 2^−68 is above 1e-12 and below infinity, and the root of what is below the rounded square of a spacing is at most the spacing, which makes one piece. Assumes nothing.
 use mathlib.Core.Path.{_≡_, refl, sym, ap, _∙_, subst}
 use mathlib.Core.Bool.{Bool, true, false, true≢false, false≢true, _&&_, _||_}
-use Prim.Native.Nat.{ℕ, zero, suc, _+_, _-_, _*_, _/_, _%_, _^_, _≤_, _<_, min}
-use native.Mathlib.Nat.{le-trans, le-of-eq, le-of-lt, lt-irrefl, lt-of-lt-of-le, lt-of-le-of-lt, not-le-of-lt, mul-one, add-le-add, mul-le-mul, mul-le-mul-left, mul-le-mul-right, mul-pos, mul-lt-mul-of-pos-right, lt-of-mul-lt-mul-right, div-eq-of-lt-le}
+use Prim.Native.Nat.{ℕ, zero, suc, _+_, _-_, _*_, _/_, _%_, _^_, _≤_, _<_, min, zero-le}
+use native.Mathlib.Nat.{le-trans, le-of-eq, le-of-lt, lt-of-lt-of-le, lt-of-le-of-lt, not-le-of-lt, mul-one, add-le-add, mul-le-mul, mul-le-mul-left, mul-le-mul-right, mul-pos, mul-lt-mul-of-pos-right, lt-of-mul-lt-mul-right, div-eq-of-lt-le}
 use native.Mathlib.Omega.{arith}
 use borrow.Author.Tests.{ltb-true, lt-ltb, ne-eqb}
 use lib.IntN.{pos, negsuc}
 use lib.Dec.{T, lit≤, lit<, ltb→lt}
 use lib.Pow.{pow-pos, pow-mono, shl-lt}
 use lib.Ieee.{Float, nan, inf, fin, binary64, up, down, odd, fits, ofFields, ofBits, toBits, lt, le, eq, div, mul, round}
-use lib.Ieee.Bits.{ofBits-toBits, ofBits-fits}
+use lib.Ieee.Bits.{ofBits-toBits}
 use lib.Ieee.Exact.{HasValue, odd-sign, round-exact}
 use lib.Ieee.Fits.{up-pos, down-pos}
 use lib.Ieee.Order.{le-of-values, round-mono}
@@ -138,44 +138,41 @@ module _ (x : Float) (h : T (fits binary64 x)) (p : T (positive x)) (w : ℕ) wh
   pub root-at-least : square (units w) ≤ 2 ^ 1074 * units (toBits binary64 x) → w ≤ toBits binary64 (root x)
   root-at-least = at-least (2 ^ 1074) (units (toBits binary64 x)) (toBits binary64 (root x)) w (root-beside x h p .below)
 
--- ---- an operand above 1e-20
+-- ---- an operand above a pattern l from 2^−68 on
 
--- 1e-20, and 2^−34, which is below its root
+-- 2^−68 and its root
 abbrev low : ℕ
-low = 0x3bc7_9ca1_0c92_4223
+low = 955 * 2 ^ 52
 
 abbrev floor : ℕ
-floor = 0x3dd0_0000_0000_0000
+floor = 989 * 2 ^ 52
 
 floor-square : square (units floor) ≤ 2 ^ 1074 * units low
 unfolding units weight
 floor-square = lit≤ tt
 
-low-positive : T (positive (ofBits binary64 low))
-unfolding ofBits
-low-positive = tt
-
-floor-positive : T (positive (ofBits binary64 floor))
-unfolding ofBits
-floor-positive = tt
+bits-positive : (b : ℕ) → 0 < b → b < 2047 * 2 ^ 52 → T (positive (ofBits binary64 b))
+bits-positive b p l = positive-of-value (ofBits binary64 b) (units b) (2 ^ 1074) (bits-value b l) (lt-of-le-of-lt zero-le (lt-of-lt-of-le (units-next 0) (units-mono 1 b p)))
 
 -- the pattern of its root
 record Rooted (x : Float) (r : ℕ) : Type 0 where
-  pub is : root x ≡ ofBits binary64 r
-  pub least : floor ≤ r
-  pub most : r < 2047 * 2 ^ 52
+  above : T (positive x)
+  is : root x ≡ ofBits binary64 r
+  least : floor ≤ r
+  most : r < 2047 * 2 ^ 52
 
-rooted : (x y : Float) → T (fits binary64 x) → lt (ofBits binary64 low) x ≡ true → lt x y ≡ true → Rooted x (toBits binary64 (root x))
-rooted x y h g l =
-    let p = lt-positive (ofBits binary64 low) x y low-positive g l in
+rooted : (x y : Float) (l : ℕ) → T (fits binary64 x) → low ≤ l → l < 2047 * 2 ^ 52 → lt (ofBits binary64 l) x ≡ true → lt x y ≡ true → Rooted x (toBits binary64 (root x))
+rooted x y l h i j g k =
+    let p = lt-positive (ofBits binary64 l) x y (bits-positive l (omega arith) j) g k in
     let b = toBits binary64 x in
-    let k = pattern-range x h p in
-    let e : lt (ofBits binary64 low) (ofBits binary64 b) ≡ true = ap (lt (ofBits binary64 low)) (ofBits-toBits binary64 x h) ∙ g in
-    let m : low < b = lt-bits low b (lit< tt) (k .1) e in
-    let t = ap (toBits binary64) (of-some x h b refl (k .0) (k .1)) ∙ same-bits (rootOf (b / 2 ^ 52) (b % 2 ^ 52)) (root-of-lt (b / 2 ^ 52) (b % 2 ^ 52) (omega arith)) in
+    let n = pattern-range x h p in
+    let e : lt (ofBits binary64 l) (ofBits binary64 b) ≡ true = ap (lt (ofBits binary64 l)) (ofBits-toBits binary64 x h) ∙ g in
+    let m : l < b = lt-bits l b j (n .1) e in
+    let t = ap (toBits binary64) (of-some x h b refl (n .0) (n .1)) ∙ same-bits (rootOf (b / 2 ^ 52) (b % 2 ^ 52)) (root-of-lt (b / 2 ^ 52) (b % 2 ^ 52) (omega arith)) in
     record {
+      above = p;
       is = sym (ofBits-toBits binary64 (root x) (root-fits x h));
-      least = root-at-least x h p floor (le-trans floor-square (mul-le-mul-left (2 ^ 1074) (units-mono low b (le-of-lt m))));
+      least = root-at-least x h p floor (le-trans floor-square (mul-le-mul-left (2 ^ 1074) (units-mono low b (omega arith))));
       most = subst (λ (r : ℕ). r < 2047 * 2 ^ 52) (sym t) (root-of-lt (b / 2 ^ 52) (b % 2 ^ 52) (omega arith));
     }
 
@@ -197,27 +194,24 @@ bits-under r l = go (ofBits binary64 r) (bits-value r l)
     go (inf s) v = absurd v
     go (fin s m e) v = refl
 
-split : (a b c : Bool) → (a && b && c) ≡ true → (a ≡ true) × (b ≡ true) × (c ≡ true)
-split true true true h = (refl, refl, refl)
-split true true false h = absurd (false≢true h)
-split true false c h = absurd (false≢true h)
-split false b c h = absurd (false≢true h)
+both : (a b : Bool) → (a && b) ≡ true → (a ≡ true) × (b ≡ true)
+both true true h = (refl, refl)
+both true false h = absurd (false≢true h)
+both false b h = absurd (false≢true h)
 
-abbrev infinity : Float
-infinity = div binary64 (ofBits binary64 0x3ff0_0000_0000_0000) (ofBits binary64 0)
-
-infinity-is : infinity ≡ inf false
+pub infinity : div binary64 (ofBits binary64 0x3ff0_0000_0000_0000) (ofBits binary64 0) ≡ inf false
 unfolding div ofBits
-infinity-is = refl
+infinity = refl
 
-pub first-nearer : (x y : Float) → T (fits binary64 x) → (lt (ofBits binary64 low) x && lt x y && eq y infinity) ≡ true → true ≡ (lt small (root x) && lt (root x) (root y))
-first-nearer x y h t =
-    let s = split _ _ _ t in
-    let r = rooted x y h (s .0) (s .1) in
+pub first-nearer : (x y v : Float) (l : ℕ) → T (fits binary64 x) → (lt (ofBits binary64 l) x && lt x y && eq y v) ≡ true → low ≤ l → l < 2047 * 2 ^ 52 → v ≡ inf false → true ≡ (lt small (root x) && lt (root x) (root y))
+first-nearer x y v l h t i j f =
+    let t2 = both _ _ t in
+    let t1 = both _ _ (t2 .0) in
+    let r = rooted x y l h i j (t1 .0) (t1 .1) in
     let n = toBits binary64 (root x) in
-    let i : root y ≡ inf false = ap root (infinite y (subst (λ (v : Float). eq y v ≡ true) infinity-is (s .2))) ∙ root-infinity in
+    let e : root y ≡ inf false = ap root (infinite y (subst (λ (z : Float). eq y z ≡ true) f (t2 .1))) ∙ root-infinity in
     let a : lt small (ofBits binary64 n) ≡ true = bits-lt 0x3d71_9799_812d_ea11 n (r .most) (lt-of-lt-of-le (lit< tt) (r .least)) in
-    rw (r .is, i, a, bits-under n (r .most))
+    rw (r .is, e, a, bits-under n (r .most))
 
 -- ---- a square below the rounded square of a spacing
 
@@ -285,8 +279,8 @@ least-rounds : T (positive (round binary64 false 1 (2 ^ 54)))
 unfolding round
 least-rounds = tt
 
--- the quotient of a d from 2^−34 on and an s of at most 1e6 is at least 2^−54
-module _ (d s : Float) (p : T (positive d)) (q : T (positive s)) (long : den d ≤ num d * 2 ^ 34) (less : num s ≤ 1000000 * den s) (h : T (le d s)) where
+-- the quotient of a d from 2^−34 on and an s of at most 2^20 is at least 2^−54
+module _ (d s : Float) (p : T (positive d)) (q : T (positive s)) (long : den d ≤ num d * 2 ^ 34) (less : num s ≤ 2 ^ 20 * den s) (h : T (le d s)) where
   one-piece : 1 ≡ ceilCount (div binary64 d s)
   one-piece =
       let a = num d * den s in
@@ -294,55 +288,55 @@ module _ (d s : Float) (p : T (positive d)) (q : T (positive s)) (long : den d �
       let k : a ≤ c = le→cross d s p q h in
       let A : 0 < a = mul-pos (value-pos d (num d) (den d) p (den-pos d) (own-value d p)) (den-pos s) in
       let C : 0 < c = omega arith in
-      let f : num s * den d ≤ 1000000 * den s * (num d * 2 ^ 34) = mul-le-mul less long in
+      let f : num s * den d ≤ 2 ^ 20 * den s * (num d * 2 ^ 34) = mul-le-mul less long in
       let u : T (le (round binary64 false a c) (fin false 1 (pos 0))) = subst (λ (z : Float). T (le (round binary64 false a c) z)) one-rounds (round-mono binary64 a c 1 1 C (lit< tt) (omega arith)) in
       let l : T (le (round binary64 false 1 (2 ^ 54)) (round binary64 false a c)) = round-mono binary64 1 (2 ^ 54) a c (pow-pos 54) C (omega arith) in
       rw (div-is d s p q) (one-count (round binary64 false a c) (between _ _ (fin false 1 (pos 0)) least-rounds tt l u) u)
 
--- 1e-6 and 1e6
-abbrev shortest : ℕ
-shortest = 0x3eb0_c6f7_a0b5_ed8d
-
+-- 2^20
 abbrev longest : ℕ
-longest = 0x412e_8480_0000_0000
+longest = 1043 * 2 ^ 52
 
-shortest-positive : T (positive (ofBits binary64 shortest))
+under-longest : (s : Float) → T (positive s) → T (le s (ofBits binary64 longest)) → num s ≤ 2 ^ 20 * den s
 unfolding ofBits
-shortest-positive = tt
-
-under-longest : (s : Float) → T (positive s) → lt s (ofBits binary64 longest) ≡ true → num s ≤ 1000000 * den s
-unfolding ofBits
-under-longest s p h = let l = lt→cross s (fin false 15625 (pos 6)) p tt h in omega arith
+under-longest s p h = let l = le→cross s (fin false 1 (pos 20)) p tt h in omega arith
 
 over-floor : (d : Float) → T (positive d) → T (le (ofBits binary64 floor) d) → den d ≤ num d * 2 ^ 34
 unfolding ofBits
 over-floor d p h = let l = le→cross (fin false 1 (negsuc 33)) d tt p h in omega arith
 
-both : (a b : Bool) → (a && b) ≡ true → (a ≡ true) × (b ≡ true)
-both true true h = (refl, refl)
-both true false h = absurd (false≢true h)
-both false b h = absurd (false≢true h)
-
 le-bits : (a b : ℕ) → b < 2047 * 2 ^ 52 → a ≤ b → T (le (ofBits binary64 a) (ofBits binary64 b))
 le-bits a b l h =
     le-of-values _ _ (units a) (2 ^ 1074) (units b) (2 ^ 1074) (pow-pos 1074) (pow-pos 1074) (bits-value a (omega arith)) (bits-value b l) (mul-le-mul-right (2 ^ 1074) (units-mono a b h))
 
-pub short-one : (x s : Float) → T (fits binary64 x) → T (fits binary64 s)
-    → (lt (ofBits binary64 low) x && lt x (mul binary64 s s) && lt (ofBits binary64 shortest) s && lt s (ofBits binary64 longest)) ≡ true → 1 ≡ ceilCount (div binary64 (root x) s)
-short-one x s h k t =
+-- What the bounds must be: l of the operand, from 2^−68 on, and i and j of the spacing, above 0 and up to 2^20.
+pub record Bounds (l i j : ℕ) : Type 0 where
+  pub low-least : low ≤ l
+  pub low-most : l < 2047 * 2 ^ 52
+  pub some : 0 < i
+  pub i-most : i < 2047 * 2 ^ 52
+  pub j-most : j ≤ longest
+
+pub short-one : (x s y : Float) (l i j : ℕ) → T (fits binary64 x) → T (fits binary64 s) → (lt (ofBits binary64 l) x && lt x y && lt (ofBits binary64 i) s && lt s (ofBits binary64 j)) ≡ true
+    → y ≡ mul binary64 s s → Bounds l i j → 1 ≡ ceilCount (div binary64 (root x) s)
+short-one x s y l i j h k t is n =
     let t3 = both _ _ t in
     let t2 = both _ _ (t3 .0) in
     let t1 = both _ _ (t2 .0) in
-    let p = lt-positive (ofBits binary64 low) x (mul binary64 s s) low-positive (t1 .0) (t1 .1) in
-    let q = lt-positive (ofBits binary64 shortest) s (ofBits binary64 longest) shortest-positive (t2 .1) (t3 .1) in
-    let r = rooted x (mul binary64 s s) h (t1 .0) (t1 .1) in
+    let r = rooted x y l h (n .low-least) (n .low-most) (t1 .0) (t1 .1) in
+    let p = r .above in
+    let q = lt-positive (ofBits binary64 i) s (ofBits binary64 j) (bits-positive i (n .some) (n .i-most)) (t2 .1) (t3 .1) in
     let b = toBits binary64 s in
-    let l = pattern-range s k q .1 in
+    let w = pattern-range s k q .1 in
+    let same : ofBits binary64 b ≡ s = ofBits-toBits binary64 s k in
+    let u : lt x (mul binary64 s s) ≡ true = subst (λ (z : Float). lt x z ≡ true) is (t1 .1) in
     let m : toBits binary64 (root x) ≤ b =
     root-at-most x h p b
-    (square-reaches x s (units (toBits binary64 x)) (units b) (2 ^ 1074) (pow-pos 1074) p q (value x h p) (value s k q) (bits-exact (toBits binary64 x) (pattern-range x h p .1)) (t1 .1)) in
-    let e : T (le (ofBits binary64 floor) (root x)) = subst (λ (v : Float). T (le (ofBits binary64 floor) v)) (sym (r .is)) (le-bits floor (toBits binary64 (root x)) (r .most) (r .least)) in
-    let g : T (le (root x) (ofBits binary64 b)) = subst (λ (v : Float). T (le v (ofBits binary64 b))) (sym (r .is)) (le-bits (toBits binary64 (root x)) b l m) in
-    let f : T (le (root x) s) = subst (λ (v : Float). T (le (root x) v)) (ofBits-toBits binary64 s k) g in
-    let d = between (ofBits binary64 floor) (root x) s floor-positive q e f in
-    one-piece (root x) s d q (over-floor (root x) d e) (under-longest s q (t3 .1)) f
+    (square-reaches x s (units (toBits binary64 x)) (units b) (2 ^ 1074) (pow-pos 1074) p q (value x h p) (value s k q) (bits-exact (toBits binary64 x) (pattern-range x h p .1)) u) in
+    let v : b < j = lt-bits b j w (omega arith) (subst (λ (z : Float). lt z (ofBits binary64 j) ≡ true) (sym same) (t3 .1)) in
+    let o : T (le s (ofBits binary64 longest)) = subst (λ (z : Float). T (le z (ofBits binary64 longest))) same (le-bits b longest (lit< tt) (omega arith)) in
+    let e : T (le (ofBits binary64 floor) (root x)) = subst (λ (z : Float). T (le (ofBits binary64 floor) z)) (sym (r .is)) (le-bits floor (toBits binary64 (root x)) (r .most) (r .least)) in
+    let g : T (le (root x) (ofBits binary64 b)) = subst (λ (z : Float). T (le z (ofBits binary64 b))) (sym (r .is)) (le-bits (toBits binary64 (root x)) b w m) in
+    let f : T (le (root x) s) = subst (λ (z : Float). T (le (root x) z)) same g in
+    let d = between (ofBits binary64 floor) (root x) s (bits-positive floor (lit< tt) (lit< tt)) q e f in
+    one-piece (root x) s d q (over-floor (root x) d e) (under-longest s q o) f

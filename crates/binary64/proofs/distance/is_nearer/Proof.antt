@@ -1,11 +1,12 @@
 -- `binary64::distance::is_nearer` meets its contract: below an infinite y the root of x is finite and above the least, and elsewhere both roots are taken and compared. Assumes nothing.
 use mathlib.Core.Path.{_≡_, sym, subst}
 use mathlib.Core.Bool.{true, false, _&&_}
+use native.Mathlib.Omega.{arith}
 use borrow.Author.Needs.{needs}
 use lib.Dec.{T}
 use lib.Ieee.{Float, binary64, fits, lt}
 use Rattle.binary64.specs.Constants.{small}
-use Rattle.binary64.proofs.RootOrder.{first-nearer}
+use Rattle.binary64.proofs.RootOrder.{first-nearer, infinity}
 use Rattle.binary64.proofs.distance.is_nearer.Statement.{statement}
 use Rattle.binary64.proofs.distance.is_nearer.Tie as tie
 
@@ -27,7 +28,7 @@ sqrt-requires-2 : tie.Need-sqrt-requires-2
 sqrt-requires-2 c κs = search needs
 
 returns : tie.Need-returns
-returns c = first-nearer _ _ (held (c .before)) (c .if1 .taken)
+returns c = first-nearer _ _ _ _ (held (c .before)) (c .if1 .taken) (omega arith) (omega arith) infinity
 
 returns-2 : tie.Need-returns-2
 returns-2 c = both _ _ _ _ (c .before .before .sqrt .ensures) (c .sqrt2 .ensures) (c .before .if2 .taken)
