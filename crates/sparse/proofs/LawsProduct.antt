@@ -87,6 +87,11 @@ lent-part {ℓ} : {A : Type ℓ} (l : List A) (a n : ℕ) → lent l a n ≡ par
 unfolding part
 lent-part l a n = let e : a + n - a ≡ n = omega arith in rw e
 
+-- an element of what `&l[a..e]` lends
+pub lent-at {ℓ} : {A : Type ℓ} (l : List A) (a e i k : ℕ) (d : A) → a + i < e → k ≡ a + i → getD (take (e - a) (drop a l)) i d ≡ getD l k d
+unfolding part
+lent-at l a e i k d h is = getD-part l a (e - a) i d (omega arith) ∙ ap (λ (j : ℕ). getD l j d) (sym is)
+
 module _ (words : List ℕ) (floats : List Float) (m : Csr) (p from to : ℕ) (r : RowAt words (length floats) m p from to) where
   pub row-lent : Row (lent words (m .cols) (m .count)) (length (lent floats (m .vals) (m .count))) (length (lent floats p (m .rows))) from to
   row-lent =

@@ -150,6 +150,39 @@ fn row_at(floats: &[f64], words: &[u32], m: Csr, p: usize, from: usize, to: usiz
     )
 }
 
+fn word(words: &[u32], i: usize) -> usize
+    requires { ⌜ i < length (now words) ⌝ }
+    ensures { λ r. ⌜ r ≡ getD (now (words .entry)) i 0 ⌝ }
+{
+    wide(words[i])
+}
+
+// Where row i ends.
+fn end_of(words: &[u32], m: Csr, i: usize) -> usize
+    requires { ⌜ (m .starts + m .rows < length (now words)) × (i < m .rows) ⌝ }
+    ensures { λ r. ⌜ r ≡ getD (now (words .entry)) (m .starts + i + 1) 0 ⌝ }
+{
+    let s = m.starts;
+    let s_end = s + m.rows + 1;
+    word(&words[s..s_end], i + 1)
+}
+
+fn element(x: &[f64], i: usize) -> f64
+    requires { ⌜ i < length (now x) ⌝ }
+    ensures { λ r. ⌜ r ≡ getD (now (x .entry)) i nan ⌝ }
+{
+    x[i]
+}
+
+// Element i of the vector from p.
+fn element_of(floats: &[f64], m: Csr, p: usize, i: usize) -> f64
+    requires { ⌜ (p + m .rows ≤ length (now floats)) × (i < m .rows) ⌝ }
+    ensures { λ r. ⌜ r ≡ getD (now (floats .entry)) (p + i) nan ⌝ }
+{
+    let p_end = p + m.rows;
+    element(&floats[p..p_end], i)
+}
+
 // The product of the matrix with the floats from p, at the stretch from `at`, and what it sums to with them.
 pub fn product(floats: &mut [f64], words: &[u32], m: Csr, at: usize, p: usize) -> f64
     requires { ⌜ Product.Multiplies (now words) (length (now floats)) m at p ⌝ }
@@ -160,12 +193,10 @@ pub fn product(floats: &mut [f64], words: &[u32], m: Csr, at: usize, p: usize) -
     let mut from = wide(words[s]);
     let mut total = 0.0;
     for i in 0..n {
-        let o = m.starts + i + 1;
-        let to = wide(words[o]);
+        let to = end_of(words, m, i);
         let y = row_at(floats, words, m, p, from, to);
-        let j = p + i;
+        total = total + element_of(floats, m, p, i) * y;
         let k = at + i;
-        total = total + floats[j] * y;
         floats[k] = y;
         from = to;
     }

@@ -26,38 +26,20 @@ wide-requires c κs = search needs
 loop-holds : tie.Need-loop-holds Inv-loop μ-loop
 loop-holds c = (omega arith, refl, rows-none _ _ _ _ _ _ (c .wide .ensures))
 
-add-o : tie.Need-add-o Inv-loop μ-loop
-add-o c = search needs
-
-add-o-2 : tie.Need-add-o-2 Inv-loop μ-loop
-add-o-2 c = search needs
-
-mul-wide-2 : tie.Need-mul-wide-2 Inv-loop μ-loop
-mul-wide-2 c = search needs
-
-shared-slice-read-wide-2 : tie.Need-shared-slice-read-wide-2 Inv-loop μ-loop
-shared-slice-read-wide-2 c = search needs
-
-wide-requires-2 : tie.Need-wide-requires-2 Inv-loop μ-loop
-wide-requires-2 c κs = search needs
+end-of-requires : tie.Need-end-of-requires Inv-loop μ-loop
+end-of-requires c κs = search needs
 
 row-at-requires : tie.Need-row-at-requires Inv-loop μ-loop
-row-at-requires c κs = let in-loop = c .before .before .before .before in
+row-at-requires c κs = let in-loop = c .before .before in
     let start = in-loop .before .before .before .before .before .before in
     let inv = in-loop .before .loop .inv in
-    for-row _ _ _ _ _ _ _ _ _ (start .pre) (inv .1) (in-loop .loop-test .taken) (inv .2 .from-is) (c .before .wide2 .ensures)
+    for-row _ _ _ _ _ _ _ _ _ (start .pre) (inv .1) (in-loop .loop-test .taken) (inv .2 .from-is) (c .before .end-of .ensures)
 
-add-j : tie.Need-add-j Inv-loop μ-loop
-add-j c = search needs
+element-of-requires : tie.Need-element-of-requires Inv-loop μ-loop
+element-of-requires c κs = search needs
 
 add-k : tie.Need-add-k Inv-loop μ-loop
 add-k c = search needs
-
-mul-total : tie.Need-mul-total Inv-loop μ-loop
-mul-total c = search needs
-
-slice-read-total : tie.Need-slice-read-total Inv-loop μ-loop
-slice-read-total c = search needs
 
 mul-floats : tie.Need-mul-floats Inv-loop μ-loop
 mul-floats c = search needs
@@ -72,9 +54,9 @@ loop-less : tie.Need-loop-less Inv-loop μ-loop
 loop-less c = search needs
 
 loop-again : tie.Need-loop-again Inv-loop μ-loop
-loop-again c = let in-loop = c .before .before .before .before .before .before in
+loop-again c = let in-loop = c .before .before .before .before .before in
     let start = in-loop .before .before .before .before .before .before in
-    (omega arith, search needs, rows-step _ _ _ _ _ _ _ _ _ _ _ (start .pre) (in-loop .loop-test .taken) (in-loop .before .loop .inv .2) (c .before .before .before .wide2 .ensures) (c .before .row-at .ensures))
+    (omega arith, search needs, rw (c .element-of .ensures) (rows-step _ _ _ _ _ _ _ _ _ _ _ (start .pre) (in-loop .loop-test .taken) (in-loop .before .loop .inv .2) (c .before .before .before .before .end-of .ensures) (c .before .before .row-at .ensures)))
 
 same-length : tie.Need-same-length Inv-loop μ-loop
 same-length c = search needs
@@ -92,16 +74,10 @@ product-spec =
     shared-slice-read-wide
     wide-requires
     loop-holds
-    add-o
-    add-o-2
-    mul-wide-2
-    shared-slice-read-wide-2
-    wide-requires-2
+    end-of-requires
     row-at-requires
-    add-j
+    element-of-requires
     add-k
-    mul-total
-    slice-read-total
     mul-floats
     slice-write-floats
     add-i
