@@ -1,14 +1,14 @@
 -- Whatever the record and the buffers hold: a call keeps the lengths of floats and path, all that lies past the places used, and every word. Within the ranges that a call checks, so do passes in a row and the way to a place.
 -- Assumes nothing.
 use Prim.Native.Nat.{ℕ, zero, suc, _+_, _-_, _*_, _≤_}
-use mathlib.Core.Path.{_≡_, refl, sym}
+use mathlib.Core.Path.{_≡_, refl, sym, subst}
 use mathlib.Core.Bool.{Bool, true, false, not, _&&_, false≢true}
 use mathlib.Core.List.{List, [], _∷_}
 use native.Mathlib.Omega.{arith}
-use lib.Dec.{eqb, leb}
+use lib.Dec.{eqb, leb, ltb}
 use lib.ListN.{length, length-replicate}
 use lib.Ieee.{Float}
-use borrow.Author.Tests.{leb-true, eqb-true}
+use borrow.Author.Tests.{leb-true, eqb-true, eqb-false, not-true}
 use Rattle.binary64.specs.Constants.{plusZero}
 use Rattle.binary64.specs.Number.{pick}
 use Rattle.binary64.specs.Root.{root}
@@ -26,7 +26,8 @@ use Rattle.work.specs.declared.Mark.{Mark}
 use Rattle.work.specs.declared.Origin.{Origin}
 use Rattle.work.specs.declared.Run.{Run}
 use Rattle.work.specs.Layout.{atRight, atX, atR, atP, atProduct, atKept, atGradients, atNorms, matrixAt}
-use Rattle.work.specs.Memory.{Work, once, goes, fromMark, originOf, pathErased, begunAgain, toSolved, toKept, toZero, fromOrigin, seek, keptFloats}
+use Rattle.work.specs.Memory.{Work, once, goes, fromMark, originOf, pathErased, begunAgain, toStarted, toSolved, toKept, toZero, fromOrigin, seek, keptFloats}
+use Rattle.work.specs.StartedLaws.{started-stand, started-path}
 use Rattle.image.specs.Accepted.{Accepted, accepted, then-none}
 use Rattle.image.specs.Calls.{Buffers, buffers, heldFault, workOf, gone, lateFault, fault, buffersAfter}
 use Rattle.image.specs.CallLaws.{and-true}
@@ -72,6 +73,17 @@ module _ (plan : Plan) (words : List ℕ) (room : 1 ≤ plan .room) where
       keeps = record { floats = kept-splice (usedBy plan) (w .floats) (atGradients n t) (zeros (2 * t)) (omega (arith, length-replicate (2 * t) plusZero)); path = path-kept };
       within = record { norms = h .norms; points = omega arith };
     }
+
+    -- path and stand are those of the start pass from there
+    started-moves : (w .stand .end ≡ 0 → ⊥) → Moves plan w (toStarted plan words w)
+    unfolding toStarted
+    started-moves n =
+        let o = once plan words (toSolved plan w) in
+        let a : Moves plan w o = moves-both solved-moves (once-moves (toSolved plan w) (omega (arith, solved-moves .keeps .floats .long)) (solved-moves .within)) in
+        record {
+          keeps = record { floats = same (usedBy plan) (w .floats); path = subst (Kept-from (2 * plan .room) (w .path)) (sym (started-path plan words w n)) (a .keeps .path) };
+          within = subst (InRange plan) (sym (started-stand plan words w n)) (a .within);
+        }
 
     kept-moves : (k : Kept) → k .norms ≤ plan .limit → Moves plan w (toKept plan k w)
     unfolding toKept
@@ -133,14 +145,23 @@ module _ (plan : Plan) (words : List ℕ) (room : 1 ≤ plan .room) where
         go true e = kept-moves k (leb-true (k .norms) (plan .limit) (and-true (leb (k .place) target) (leb (k .norms) (plan .limit)) e .1))
         go false e = zero-moves
 
-    any-moves : (m : Mark) (target : ℕ) (a b : Bool) → Moves plan w (fromOrigin plan words (pick a Origin.Here (pick b Origin.Solved (fromMark (plan .limit) m target))) w)
-    any-moves m target true b = record { keeps = keeps-none plan w; within = h }
-    any-moves m target false true = solved-moves
-    any-moves m target false false = mark-moves m target
+    abbrev solvedPlaceOf : ℕ
+    solvedPlaceOf = solvedAt (w .stand .norms) (w .stand .end)
+
+    ended-moves : (b : Bool) → (w .stand .end ≡ 0 → ⊥) → Moves plan w (fromOrigin plan words (pick b Origin.Started Origin.Solved) w)
+    ended-moves true n = started-moves n
+    ended-moves false n = solved-moves
+
+    any-moves : (m : Mark) (target : ℕ) (a b : Bool) → (not (eqb (w .stand .end) 0) && leb solvedPlaceOf target) ≡ b
+        → Moves plan w (fromOrigin plan words (pick a Origin.Here (pick b (pick (ltb solvedPlaceOf target) Origin.Started Origin.Solved) (fromMark (plan .limit) m target))) w)
+    any-moves m target true b e = record { keeps = keeps-none plan w; within = h }
+    any-moves m target false true e =
+        ended-moves (ltb solvedPlaceOf target) (eqb-false (w .stand .end) 0 (not-true (eqb (w .stand .end) 0) (and-true (not (eqb (w .stand .end) 0)) (leb solvedPlaceOf target) e .0)))
+    any-moves m target false false e = mark-moves m target
 
     origin-moves : (m : Mark) (target : ℕ) → Moves plan w (fromOrigin plan words (originOf (plan .limit) (w .stand) m target) w)
     unfolding originOf
-    origin-moves m target = any-moves m target (leb (w .stand .place) target) (not (eqb (w .stand .end) 0) && leb (solvedAt (w .stand .norms) (w .stand .end)) target)
+    origin-moves m target = any-moves m target (leb (w .stand .place) target) (not (eqb (w .stand .end) 0) && leb (solvedAt (w .stand .norms) (w .stand .end)) target) refl
 
     pub seek-moves : (m : Mark) (target : ℕ) → Moves plan w (seek plan words m target w)
     unfolding seek

@@ -1,34 +1,40 @@
 -- The place sought, on an image: whatever the origin, the image at that place, or at the last place where it lies beyond.
 -- Assumes nothing.
-use Prim.Native.Nat.{ℕ, _+_, _-_, _≤_, _<_, min}
+use Prim.Native.Nat.{ℕ, suc, _+_, _-_, _≤_, _<_, min}
 use mathlib.Core.Path.{_≡_, refl, sym, ap, _∙_}
 use mathlib.Core.Logic.{_≢_}
 use mathlib.Core.Bool.{Bool, true, false, not, _&&_, false≢true}
 use mathlib.Core.List.{List}
 use mathlib.Core.Option.{Option, none, some}
 use native.Mathlib.Omega.{arith}
-use lib.Dec.{eqb, leb}
+use lib.Dec.{eqb, leb, ltb}
 use lib.ListN.{length}
 use lib.Ieee.{Float}
-use borrow.Author.Tests.{leb-true, leb-false, le-leb, eqb-true, eqb-false, ne-eqb, not-true}
+use borrow.Author.Tests.{leb-true, ltb-true, leb-false, le-leb, eqb-true, eqb-false, ne-eqb, not-true}
 use Rattle.binary64.specs.Number.{pick}
 use Rattle.format.specs.Content.{Content, triangleCount, limitOf}
 use Rattle.model.specs.Run.{State, Field, Trail, state, noTrail, at, lastPlace}
 use Rattle.model.specs.Sized.{Sized}
 use Rattle.model.specs.SolvedPlace.{solvedPlace}
-use Rattle.model.specs.RunLaws.{unsolved-trail, solved-le, solved-field, solved-trail, norms-grow}
+use Rattle.model.specs.RunLaws.{unsolved-trail, solved-at, gradients-stay, solved-le, solved-field, solved-trail, norms-grow}
 use Rattle.work.specs.declared.Origin.{Origin}
-use Rattle.work.specs.Memory.{Work, goes, fromMark, originOf, toSolved, toKept, toZero, fromOrigin, seek}
+use Rattle.work.specs.Memory.{Work, once, goes, fromMark, originOf, toStarted, toSolved, toKept, toZero, fromOrigin, seek}
+use Rattle.work.specs.StartedLaws.{started-stand, started-path}
 use Rattle.image.specs.CallLaws.{and-true}
-use Rattle.image.specs.Image.{planOf, keptAt, markOf, wordsOf}
+use Rattle.image.specs.Image.{planOf, keptAt, markOf, floatsOf, wordsOf}
 use Rattle.image.specs.ImageLawsLengths.{shaped-at}
-use Rattle.image.specs.ImageLawsPass.{imageOf, imageWork}
+use Rattle.image.specs.ImageLawsPass.{imageOf, imageWork, work-is}
 use Rattle.image.specs.ImageLawsGoes.{goes-image}
 use Rattle.image.specs.ImageLawsOrigin.{to-solved, to-zero, to-kept}
 
 -- a state by its field and its trail
 state-is : (s : State) (f : Field) (t : Trail) → s .field ≡ f → s .trail ≡ t → state f t ≡ s
 state-is s f t a b = ap (λ (x : Field). state x t) (sym a) ∙ ap (λ (x : Trail). state (s .field) x) (sym b)
+
+-- floats have the field and the gradients of a state, and nothing else of it
+same-floats : (c : Content) (m : Option ℕ) (floats : List Float) (s s′ : State) → s .field ≡ s′ .field → s .trail .gradients ≡ s′ .trail .gradients → floatsOf c s m floats ≡ floatsOf c s′ m floats
+unfolding floatsOf
+same-floats c m floats s s′ e g = rw (e, g)
 
 -- ---- where the field had no end
 
@@ -69,19 +75,50 @@ module _ (c : Content) (z : Sized c) (floats : List Float) (words : List ℕ) (p
       let f : min (q + (target - q)) E ≡ min target E = omega arith in
       ap onward e ∙ goes-image c z m floats words path (target - q) q h ∙ ap (there m) f
 
-  -- ---- the four origins
+  -- ---- the origins
 
-  from-solved : (m : Option ℕ) → solvedTest c p target ≡ true → onward (toSolved (planOf c) (there m p)) ≡ there m (min target E)
-  from-solved m e =
-      let b : (not (eqb (at c p .field .end) 0) ≡ true) × (leb (solvedPlace (at c p .field)) target ≡ true) = and-true (not (eqb (at c p .field .end) 0)) (leb (solvedPlace (at c p .field)) target) e in
-      let n : at c p .field .end ≢ 0 = eqb-false (at c p .field .end) 0 (not-true (eqb (at c p .field .end) 0) (b .0)) in
+  -- the field's end, for a place past it
+  back-solved : (m : Option ℕ) → at c p .field .end ≢ 0 → toSolved (planOf c) (there m p) ≡ there m (solvedPlace (at c p .field))
+  back-solved m n =
       let q = solvedPlace (at c p .field) in
-      let low : q ≤ p = solved-le c p n in
-      let k : q ≤ target = leb-true q target (b .1) in
       let s : state (at c p .field) (noTrail (triangleCount c)) ≡ at c q =
       state-is (at c q) (at c p .field) (noTrail (triangleCount c)) (solved-field c p n q (omega arith)) (solved-trail c p n) in
-      arrived m (toSolved (planOf c) (there m p)) q
-      (to-solved c z (at c p) (shaped-at c z p) p m floats words path ∙ ap (λ (x : State). imageOf c x q m floats path) s) (omega arith) k
+      to-solved c z (at c p) (shaped-at c z p) p m floats words path ∙ ap (λ (x : State). imageOf c x q m floats path) s
+
+  -- what the start pass from there leaves, but for the gradients, which have not changed
+  back-started : (m : Option ℕ) → at c p .field .end ≢ 0 → solvedPlace (at c p .field) < p → toStarted (planOf c) (wordsOf c words) (there m p) ≡ there m (suc (solvedPlace (at c p .field)))
+  unfolding toStarted goes
+  back-started m n h =
+      let q = solvedPlace (at c p .field) in
+      let w = there m p in
+      let e : min (q + 1) E ≡ suc q = omega arith in
+      let o : once (planOf c) (wordsOf c words) (toSolved (planOf c) w) ≡ there m (suc q) =
+      ap (once (planOf c) (wordsOf c words)) (back-solved m n) ∙ goes-image c z m floats words path 1 q (omega arith) ∙ ap (there m) e in
+      work-is
+      (same-floats c m floats (at c p) (at c (suc q)) (sym (solved-field c p n (suc q) (omega arith))) (gradients-stay c q (at c p .field) (solved-at c p n .1) p (omega arith)))
+      (started-path (planOf c) (wordsOf c words) w n ∙ ap (λ (x : Work). x .path) o)
+      (started-stand (planOf c) (wordsOf c words) w n ∙ ap (λ (x : Work). x .stand) o)
+
+  from-ended : (m : Option ℕ) (b : Bool) → ltb (solvedPlace (at c p .field)) target ≡ b → target < p → solvedTest c p target ≡ true
+      → onward (fromOrigin (planOf c) (wordsOf c words) (pick b Origin.Started Origin.Solved) (there m p)) ≡ there m (min target E)
+  from-ended m b y h e = go b y
+    where
+      q : ℕ
+      q = solvedPlace (at c p .field)
+
+      tests : (not (eqb (at c p .field .end) 0) ≡ true) × (leb q target ≡ true)
+      tests = and-true (not (eqb (at c p .field .end) 0)) (leb q target) e
+
+      n : at c p .field .end ≢ 0
+      n = eqb-false (at c p .field .end) 0 (not-true (eqb (at c p .field .end) 0) (tests .0))
+
+      go : (a : Bool) → ltb q target ≡ a → onward (fromOrigin (planOf c) (wordsOf c words) (pick a Origin.Started Origin.Solved) (there m p)) ≡ there m (min target E)
+      go true x =
+          let k : q < target = ltb-true q target x in
+          arrived m (toStarted (planOf c) (wordsOf c words) (there m p)) (suc q) (back-started m n (omega arith)) (omega arith) (omega arith)
+      go false x =
+          let low : q ≤ p = solved-le c p n in
+          arrived m (toSolved (planOf c) (there m p)) q (back-solved m n) (omega arith) (leb-true q target (tests .1))
 
   from-zero : (m : Option ℕ) → onward (toZero (planOf c) (wordsOf c words) (there m p)) ≡ there m (min target E)
   unfolding at
@@ -110,9 +147,9 @@ module _ (c : Content) (z : Sized c) (floats : List Float) (words : List ℕ) (p
   by-mark (some q) h e = by-kept q (leb q target && leb (length (at c q .field .norms)) (limitOf c)) h e refl
 
   by-any : (m : Option ℕ) (a b : Bool) → leb p target ≡ a → solvedTest c p target ≡ b
-      → by m (pick a Origin.Here (pick b Origin.Solved (fromMark (limitOf c) (markOf c m) target))) ≡ there m (min target E)
+      → by m (pick a Origin.Here (pick b (pick (ltb (solvedPlace (at c p .field)) target) Origin.Started Origin.Solved) (fromMark (limitOf c) (markOf c m) target))) ≡ there m (min target E)
   by-any m true b x y = arrived m (there m p) p refl within (leb-true p target x)
-  by-any m false true x y = from-solved m y
+  by-any m false true x y = from-ended m (ltb (solvedPlace (at c p .field)) target) refl (leb-false p target x) y
   by-any m false false x y = by-mark m (leb-false p target x) y
 
   pub seek-image : (m : Option ℕ) → seek (planOf c) (wordsOf c words) (markOf c m) target (there m p) ≡ there m (min target E)

@@ -254,6 +254,21 @@ at-crossing c s f h = from (λ (p : ℕ). finished (at c p) ≡ false → Underw
         ap (λ (t : State). t .trail) (pass-cross c (at c r) (unfinished-end (at c r) u) k (omega arith)) in
         subst (λ (t : Trail). t .walk .end ≡ 0 → Underway c s (suc r) t) (sym q) (crossing-next c s r (at c r .field .solve .x) (at c r .trail) w) (unfinished-end (at c (suc r)) e)
 
+-- the gradients stay what the start pass made them
+pub gradients-stay : (c : Content) (s : ℕ) (f : Field) → Solved c s f → (p : ℕ) → suc s ≤ p → at c p .trail .gradients ≡ at c (suc s) .trail .gradients
+unfolding at
+gradients-stay c s f h = from (λ (p : ℕ). at c p .trail .gradients ≡ at c (suc s) .trail .gradients) (suc s) refl next
+  where
+    next : (r : ℕ) → suc s ≤ r → at c r .trail .gradients ≡ at c (suc s) .trail .gradients → at c (suc r) .trail .gradients ≡ at c (suc s) .trail .gradients
+    next r l ih =
+        pass-elim (λ (t : State). t .trail .gradients ≡ at c (suc s) .trail .gradients) c (at c r)
+        (λ (e : finished (at c r) ≡ true). ih)
+        (λ (e : at c r .trail .walk .end ≡ 0) (z : at c r .field .end ≡ 0). ih)
+        (λ (e : at c r .trail .walk .end ≡ 0) (n : at c r .field .end ≢ 0) (z : at c r .trail .walk .points ≡ 0).
+        let u : Underway c s r (at c r .trail) = at-crossing c s f h r l (ap not (eq-eqb _ 0 e)) in
+        absurd (omega arith))
+        (λ (e : at c r .trail .walk .end ≡ 0) (n : at c r .field .end ≢ 0) (z : at c r .trail .walk .points ≢ 0). crossing-gradients c (at c r .field .solve .x) (at c r .trail) ∙ ih)
+
 -- while the path has points and no end, a crossing is left
 pub crossings-left : (c : Content) (p : ℕ) → at c p .trail .walk .points ≢ 0 → at c p .trail .walk .end ≡ 0 → at c p .trail .crossings < factor * triangleCount c
 crossings-left c p k z = at-crossing c (solvedPlace (at c p .field)) (at c p .field) (solved-at c p n .1) p (solved-lt c p n k) (ap not (eq-eqb _ 0 z)) .below

@@ -44,7 +44,8 @@ use Rattle.work.specs.declared.Step.{Step}
 use Rattle.work.specs.Layout.{atX, atR, atP, atProduct, atGradients, atNorms, matrixAt, meshAt, vectorsAt}
 use Rattle.work.specs.Memory.{Stepped, vectorsIn, solvedStand, solvedStep, solveStep, setOut, walkedStand, crossedStand, startBy, beginStep, crossingOf, crossStep, nextOf, stepOn, work, once}
 use Rattle.work.specs.Ready.{Ready, Standing, Crosses, Steps, Comes}
-use Rattle.work.specs.Kinds.{Searchable, Leads, gradientsPut, foundBy, lostBy}
+use Rattle.work.specs.Kinds.{SetsOut, Searchable, Leads, gradientsPut, foundBy, lostBy}
+use Rattle.work.specs.StartedLaws.{start-is}
 use Rattle.work.specs.StandingLaws.{turnOf, step-over}
 use Rattle.work.proofs.Laws.{pick-small, once-comes}
 
@@ -151,28 +152,37 @@ module _ (plan : Plan) (words : List ℕ) (f : List Float) (m : Mesh) (em : m �
   unfolding verticesOf trianglesOf neighboursOf tagsOf fieldOf
   found-picked r u eg eu e = rw eg (rw (em, eu) at e)
 
-start-is : (plan : Plan) (words : List ℕ) (f : List Float) (s : Stand) (g : Given) → setOut s (gradientsPut plan words f) (lostBy g) (foundBy plan words f g) ≡ startBy plan words f s g
-start-is plan words f s (Given.At p) = refl
-start-is plan words f s Given.Nothing = refl
+module _ (plan : Plan) (words : List ℕ) (f : List Float) (s : Stand) (found : Start) (s′ : Stand) where
+  set-out-is : found ≡ foundBy plan words f (plan .start) → setOut s (gradientsPut plan words f) (lostBy (plan .start)) found ≡ startBy plan words f s (plan .start)
+  set-out-is e = ap (setOut s (gradientsPut plan words f) (lostBy (plan .start))) e ∙ sym (start-is plan words f s (plan .start))
 
-module _ (plan : Plan) (words : List ℕ) (f : List Float) (s : Stand) (found : Start) (f′ : List Float) (s′ : Stand) where
-  begin-is : found ≡ foundBy plan words f (plan .start) → f′ ≡ gradientsPut plan words f → setOut s f′ (lostBy (plan .start)) found ≡ beginStep plan words f s
-  unfolding beginStep
-  begin-is e h = ap₂ (λ x y. setOut s x (lostBy (plan .start)) y) h e ∙ start-is plan words f s (plan .start)
-
-  pub begin-lost : (e : ℕ) (w : Walk) → found ≡ foundBy plan words f (plan .start) → f′ ≡ gradientsPut plan words f → found ≡ Start.Nothing → e ≡ lostBy (plan .start) → w ≡ ended nowhere e
-      → s′ ≡ walkedStand s w 0 → Leads (beginStep plan words f s) (record { stand = s′; gives = Gives.Nothing }) f′
+  pub start-lost : (e : ℕ) (w : Walk) → found ≡ foundBy plan words f (plan .start) → found ≡ Start.Nothing → e ≡ lostBy (plan .start) → w ≡ ended nowhere e
+      → s′ ≡ walkedStand s w 0 → SetsOut (startBy plan words f s (plan .start)) (record { stand = s′; gives = Gives.Nothing })
   unfolding setOut
-  begin-lost e w ef eg en ee ew es =
-      let i : setOut s f′ (lostBy (plan .start)) Start.Nothing ≡ beginStep plan words f s = rw en at (begin-is ef eg) in
-      rw (← i) (record { stand = es ∙ ap (λ (x : Walk). walkedStand s x 0) (ew ∙ ap (ended nowhere) ee); gives = refl; front = refl })
+  start-lost e w ef en ee ew es =
+      let i : setOut s (gradientsPut plan words f) (lostBy (plan .start)) Start.Nothing ≡ startBy plan words f s (plan .start) = rw en at (set-out-is ef) in
+      rw (← i) (record { stand = es ∙ ap (λ (x : Walk). walkedStand s x 0) (ew ∙ ap (ended nowhere) ee); gives = refl })
 
-  pub begin-found : (p : Point) (t e : ℕ) → found ≡ foundBy plan words f (plan .start) → f′ ≡ gradientsPut plan words f → found ≡ Start.At p t e
-      → s′ ≡ walkedStand s (record { position = p; triangle = t; edge = e; points = 1; end = 0 }) 0 → Leads (beginStep plan words f s) (record { stand = s′; gives = Gives.First p }) f′
+  pub start-found : (p : Point) (t e : ℕ) → found ≡ foundBy plan words f (plan .start) → found ≡ Start.At p t e
+      → s′ ≡ walkedStand s (record { position = p; triangle = t; edge = e; points = 1; end = 0 }) 0 → SetsOut (startBy plan words f s (plan .start)) (record { stand = s′; gives = Gives.First p })
   unfolding setOut
-  begin-found p t e ef eg ea es =
-      let i : setOut s f′ (lostBy (plan .start)) (Start.At p t e) ≡ beginStep plan words f s = rw ea at (begin-is ef eg) in
-      rw (← i) (record { stand = es; gives = refl; front = refl })
+  start-found p t e ef ea es =
+      let i : setOut s (gradientsPut plan words f) (lostBy (plan .start)) (Start.At p t e) ≡ startBy plan words f s (plan .start) = rw ea at (set-out-is ef) in
+      rw (← i) (record { stand = es; gives = refl })
+
+set-out-front : (s : Stand) (f : List Float) (k : ℕ) (st : Start) → setOut s f k st .front ≡ f
+unfolding setOut
+set-out-front s f k (Start.At p t e) = refl
+set-out-front s f k Start.Nothing = refl
+
+pub begin-leads : (plan : Plan) (words : List ℕ) (f : List Float) (s : Stand) (d : Step) (f′ : List Float) → SetsOut (startBy plan words f s (plan .start)) d → f′ ≡ gradientsPut plan words f
+    → Leads (beginStep plan words f s) d f′
+unfolding beginStep
+begin-leads plan words f s d f′ o e = record {
+  stand = o .stand;
+  gives = o .gives;
+  front = e ∙ sym (ap (λ (x : Stepped). x .front) (start-is plan words f s (plan .start)) ∙ set-out-front s (gradientsPut plan words f) (lostBy (plan .start)) (foundBy plan words f (plan .start)));
+}
 
 -- ---- a crossing
 

@@ -4,11 +4,13 @@ use mathlib.Core.Logic.{inl}
 use mathlib.Core.List.{List, [], _∷_}
 use Prim.Native.Nat.{ℕ, _+_, _-_, _*_, _≤_, _<_}
 use native.Mathlib.Omega.{arith}
-use borrow.Author.Tests.{eq-eqb, ne-eqb, le-leb, lt-leb}
+use borrow.Author.Tests.{eq-eqb, ne-eqb, le-leb, lt-leb, lt-ltb, le-ltb}
+use mathlib.Core.Bool.{Bool, true, false}
 use lib.Dec.{eqb}
-use lib.ListN.{set, replicate}
+use lib.ListN.{length, set, take, replicate}
 use lib.Ieee.{Float}
 use Rattle.binary64.specs.Constants.{plusZero}
+use Rattle.binary64.specs.Number.{pick}
 use Rattle.binary64.specs.Root.{root}
 use Rattle.stretch.specs.Stretch.{part, splice}
 use Rattle.stretch.specs.StretchLaws.{splice-nil, splice-one}
@@ -24,13 +26,17 @@ use Rattle.work.specs.declared.Stand.{Stand}
 use Rattle.work.specs.declared.Kept.{Kept}
 use Rattle.work.specs.declared.Mark.{Mark}
 use Rattle.work.specs.declared.Origin.{Origin}
+use Rattle.work.specs.declared.Gives.{Gives}
+use Rattle.work.specs.declared.Step.{Step}
 use Rattle.work.specs.Layout.{atX, atKept, atGradients, atNorms, matrixAt, vectorsAt}
-use Rattle.work.specs.Memory.{Work, work, goes, pathless, fromMark, originOf, gradientsErased, normsErased, pathErased, toSolved, toKept, begunAgain, toZero, fromOrigin, seek, keptFloats}
+use Rattle.work.specs.Memory.{startBy, Work, work, floatsGiven, pathGiven, goes, pathless, fromMark, originOf, gradientsErased, normsErased, pathErased, toStarted, toSolved, toKept, begunAgain, toZero, fromOrigin, seek, keptFloats}
 use Rattle.work.specs.Record.{firstEnd, newRun}
-use Rattle.work.specs.Ready.{Ready, Standing, Roomy, MarkKeeping, Comes}
+use Rattle.work.specs.Ready.{Ready, Standing, Roomy, Writable, MarkKeeping, Comes}
 use Rattle.work.specs.Seek.{Erasable, Again, Rewinds}
+use Rattle.work.specs.Kinds.{SetsOut}
+use Rattle.work.specs.StartedLaws.{start-floats}
 use Rattle.work.specs.SeekLaws.{from-place, from-standing}
-use Rattle.work.proofs.Laws.{pick-small, came, comes-to}
+use Rattle.work.proofs.Laws.{Delivered, pick-small, came, comes-to}
 
 -- ---- from where a place is sought
 
@@ -39,6 +45,13 @@ solved-two norms e h k = rw k (omega arith)
 
 pub solved-other : (norms e : ℕ) → (e ≡ 2 → ⊥) → norms - 1 ≡ solvedAt norms e
 solved-other norms e n = rw (ne-eqb e 2 n) (omega arith)
+
+solved-small : (norms e : ℕ) → solvedAt norms e ≤ norms + 1
+solved-small norms e = go (eqb e 2)
+  where
+    go : (b : Bool) → norms - 1 + pick b 1 0 ≤ norms + 1
+    go true = omega arith
+    go false = omega arith
 
 module _ (limit : ℕ) (mark : Mark) (target : ℕ) where
   pub mark-none : mark ≡ Mark.Nothing → Origin.Zero ≡ fromMark limit mark target
@@ -58,9 +71,18 @@ module _ (limit : ℕ) (mark : Mark) (target : ℕ) where
     unfolding originOf
     origin-here h = rw (le-leb (s .place) target h)
 
-    pub origin-solved : (a : ℕ) → target < s .place → (s .end ≡ 0 → ⊥) → a ≡ solvedAt (s .norms) (s .end) → a ≤ target → Origin.Solved ≡ originOf limit s mark target
+    pub origin-started : (a : ℕ) → target < s .place → (s .end ≡ 0 → ⊥) → a ≡ solvedAt (s .norms) (s .end) → a < target → Origin.Started ≡ originOf limit s mark target
     unfolding originOf
-    origin-solved a h n e k = let l : solvedAt (s .norms) (s .end) ≤ target = rw e at k in rw (lt-leb (s .place) target h, ne-eqb (s .end) 0 n, le-leb (solvedAt (s .norms) (s .end)) target l)
+    origin-started a h n e k =
+        let l : solvedAt (s .norms) (s .end) < target = rw e at k in
+        rw (lt-leb (s .place) target h, ne-eqb (s .end) 0 n, le-leb (solvedAt (s .norms) (s .end)) target (omega arith), lt-ltb (solvedAt (s .norms) (s .end)) target l)
+
+    pub origin-solved : (a : ℕ) → target < s .place → (s .end ≡ 0 → ⊥) → a ≡ solvedAt (s .norms) (s .end) → target ≤ a → a ≤ target → Origin.Solved ≡ originOf limit s mark target
+    unfolding originOf
+    origin-solved a h n e b k =
+        let l : solvedAt (s .norms) (s .end) ≤ target = rw e at k in
+        let m : target ≤ solvedAt (s .norms) (s .end) = rw e at b in
+        rw (lt-leb (s .place) target h, ne-eqb (s .end) 0 n, le-leb (solvedAt (s .norms) (s .end)) target l, le-ltb (solvedAt (s .norms) (s .end)) target m)
 
     pub origin-before : (a : ℕ) (o : Origin) → target < s .place → (s .end ≡ 0 → ⊥) → a ≡ solvedAt (s .norms) (s .end) → target < a → o ≡ fromMark limit mark target → o ≡ originOf limit s mark target
     unfolding originOf
@@ -95,6 +117,22 @@ module _ (plan : Plan) (s : Stand) (m p : List Float) where
       → r ≡ pathless place (s .rs) (s .norms) (s .end) → Comes (toSolved plan (work m p s)) r m′ p′
   unfolding toSolved
   solved-comes place r m′ p′ e h k q = record { stand = q ∙ ap (λ (a : ℕ). pathless a (s .rs) (s .norms) (s .end)) k; floats = e; path = h }
+
+  pub started-comes : (words : List ℕ) (k place : ℕ) (r : Stand) (d : Step) (p₁ m′ p′ : List Float) → k ≡ atNorms (plan .n) (plan .t) → place ≡ solvedAt (s .norms) (s .end)
+      → r ≡ pathless place (s .rs) (s .norms) (s .end) → p₁ ≡ pathErased s p → SetsOut (startBy plan words (take k m) r (plan .start)) d → Delivered plan r (d .gives) m p₁ m′ p′
+      → Comes (toStarted plan words (work m p s)) (d .stand) m′ p′
+  unfolding toStarted
+  started-comes words k place r d p₁ m′ p′ ek ea er ep o dl =
+      let from : r ≡ pathless (solvedAt (s .norms) (s .end)) (s .rs) (s .norms) (s .end) = er ∙ ap (λ (a : ℕ). pathless a (s .rs) (s .norms) (s .end)) ea in
+      let f = take (atNorms (plan .n) (plan .t)) m in
+      let b = pathless (solvedAt (s .norms) (s .end)) (s .rs) (s .norms) (s .end) in
+      let o′ : SetsOut (startBy plan words f b (plan .start)) d = rw (ek, from) at o in
+      let dl′ : Delivered plan b (d .gives) m p₁ m′ p′ = rw from at dl in
+      record {
+        stand = o′ .stand;
+        floats = dl′ .0 ∙ ap (λ (g : Gives). floatsGiven plan b g m) (o′ .gives) ∙ start-floats plan words f b (plan .start) m;
+        path = dl′ .1 ∙ ap (pathGiven plan b (d .gives)) ep ∙ ap (λ (g : Gives). pathGiven plan b g (pathErased s p)) (o′ .gives);
+      }
 
   pub kept-comes : (k : Kept) (src at : ℕ) (m₁ m₂ m₃ : List Float) (r : Stand) (p′ : List Float) → src ≡ atKept (plan .n) (plan .t) → at ≡ atX (plan .n) (plan .t)
       → m₁ ≡ splice m at (part m src (3 * plan .n)) → m₂ ≡ gradientsErased plan m₁ → m₃ ≡ normsErased plan s (k .norms) m₂ → p′ ≡ pathErased s p
@@ -151,7 +189,7 @@ module _ (plan : Plan) (words : List ℕ) (s : Stand) (m : List Float) where
     path = h;
   }
 
--- ---- the four ways, and the passes after them
+-- ---- the ways, and the passes after them
 
 pub erasable : {plan : Plan} {words : List ℕ} {s : Stand} {m p : List Float} → Ready plan words → Standing plan s → Roomy plan m p → Erasable plan s m p
 erasable {plan} {words} {s} r st ro = record {
@@ -165,9 +203,33 @@ erasable {plan} {words} {s} r st ro = record {
   roomy = ro;
 }
 
+-- what the start from where the field ended asks: a place that is not far, and buffers that hold what is given
+pub started-near : (plan : Plan) (s : Stand) (m p : List Float) (place : ℕ) (r : Stand) → Erasable plan s m p → place ≡ solvedAt (s .norms) (s .end) → r ≡ pathless place (s .rs) (s .norms) (s .end)
+    → r .place < 1000000
+started-near plan s m p place r h e er =
+    let a : r .place ≡ place = ap (λ (x : Stand). x .place) er in
+    let b = solved-small (s .norms) (s .end) in
+    omega (arith, h .norms-most, h .limit-most)
+
+pub started-writable : (plan : Plan) (words : List ℕ) (s : Stand) (m p : List Float) (place : ℕ) (r : Stand) (l k : ℕ) → Ready plan words → Erasable plan s m p
+    → r ≡ pathless place (s .rs) (s .norms) (s .end) → l ≡ length m → k ≡ length p → Writable plan r l k
+started-writable plan words s m p place r l k ready h er el ek =
+    rw er (record {
+      n-most = h .n-most;
+      t-most = h .t-most;
+      norms-fit = omega (arith, h .norms-most, h .roomy .floats-fit);
+      points-most = omega arith;
+      room-least = ready .room-least;
+      room-most = h .room-most;
+      path-fit = omega (arith, h .roomy .path-fit);
+    })
+
 module _ (plan : Plan) (words : List ℕ) (o : Origin) (w : Work) (s : Stand) (m p : List Float) where
   pub from-here : o ≡ Origin.Here → s ≡ w .stand → m ≡ w .floats → p ≡ w .path → Comes (fromOrigin plan words o w) s m p
   from-here e es em ep = rw e (record { stand = es; floats = em; path = ep })
+
+  pub from-started : o ≡ Origin.Started → Comes (toStarted plan words w) s m p → Comes (fromOrigin plan words o w) s m p
+  from-started e c = rw e c
 
   pub from-solved : o ≡ Origin.Solved → Comes (toSolved plan w) s m p → Comes (fromOrigin plan words o w) s m p
   from-solved e c = rw e c
@@ -186,8 +248,8 @@ module _ (plan : Plan) (words : List ℕ) (mark : Mark) (target : ℕ) (w : Work
   pub sought-place : o ≡ originOf (plan .limit) (w .stand) mark target → Comes (fromOrigin plan words o w) s m p → s .place ≤ target
   sought-place e c = omega (arith, ap (λ (v : Stand). v .place) (origin-comes e c .stand), from-place plan words mark target w)
 
-  pub sought-standing : o ≡ originOf (plan .limit) (w .stand) mark target → Comes (fromOrigin plan words o w) s m p → Standing plan (w .stand) → MarkKeeping plan mark → Standing plan s
-  sought-standing e c st k = subst (Standing plan) (sym (origin-comes e c .stand)) (from-standing plan words mark target w st k)
+  pub sought-standing : o ≡ originOf (plan .limit) (w .stand) mark target → Comes (fromOrigin plan words o w) s m p → Ready plan words → Standing plan (w .stand) → MarkKeeping plan mark → Standing plan s
+  sought-standing e c r st k = subst (Standing plan) (sym (origin-comes e c .stand)) (from-standing plan words mark target w r st k)
 
   pub seek-comes : (r : Stand) (m′ p′ : List Float) → o ≡ originOf (plan .limit) (w .stand) mark target → Comes (fromOrigin plan words o w) s m p
       → Comes (goes plan words (target - s .place) (work m p s)) r m′ p′ → Comes (seek plan words mark target w) r m′ p′

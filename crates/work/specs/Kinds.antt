@@ -54,6 +54,11 @@ lostBy Given.Nothing = 9
 
 -- ---- what the functions ensure
 
+-- a start pass that comes to d, but for the gradients
+pub record SetsOut (d : Stepped) (r : Step) : Type 0 where
+  pub stand : r .stand ≡ d .stand
+  pub gives : r .gives ≡ d .gives
+
 -- a pass that comes to d
 pub record Leads (d : Stepped) (r : Step) (f′ : List Float) : Type 0 where
   pub stand : r .stand ≡ d .stand

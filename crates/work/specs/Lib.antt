@@ -7,4 +7,5 @@ pub mod Dry
 pub mod Seek
 pub mod StandingLaws
 pub mod DryLaws
+pub mod StartedLaws
 pub mod SeekLaws

@@ -2,7 +2,7 @@
 use Prim.Native.Nat.{ℕ, zero, suc, _+_, _-_, _*_}
 use mathlib.Core.Bool.{_&&_, not}
 use mathlib.Core.List.{List, [], _∷_, _++_}
-use lib.Dec.{leb, eqb}
+use lib.Dec.{leb, ltb, eqb}
 use lib.ListN.{take, drop, replicate}
 use lib.Ieee.{Float}
 use Rattle.binary64.specs.Constants.{plusZero}
@@ -192,11 +192,11 @@ abbrev pub fromMark : ℕ → Mark → ℕ → Origin
 fromMark limit Mark.Nothing target = Origin.Zero
 fromMark limit (Mark.At k) target = pick (leb (k .place) target && leb (k .norms) limit) (Origin.Kept k) Origin.Zero
 
--- on from here; a place after the field's end from there; else from the kept vectors; else from place 0
+-- on from here; a place after the start pass from there, and one at the field's end from there; else from the kept vectors; else from place 0
 unfoldable pub originOf : ℕ → Stand → Mark → ℕ → Origin
 originOf limit s mark target =
     pick (leb (s .place) target) Origin.Here
-    (pick (not (eqb (s .end) 0) && leb (solvedAt (s .norms) (s .end)) target) Origin.Solved (fromMark limit mark target))
+    (pick (not (eqb (s .end) 0) && leb (solvedAt (s .norms) (s .end)) target) (pick (ltb (solvedAt (s .norms) (s .end)) target) Origin.Started Origin.Solved) (fromMark limit mark target))
 
 -- the scalars of a place with no path yet
 abbrev pub pathless : ℕ → Float → ℕ → ℕ → Stand
@@ -219,6 +219,14 @@ toSolved plan w =
     work (gradientsErased plan (w .floats)) (pathErased (w .stand) (w .path))
     (pathless (solvedAt (w .stand .norms) (w .stand .end)) (w .stand .rs) (w .stand .norms) (w .stand .end))
 
+-- back to where the path started: the start is found again, and the gradients stand as they are
+unfoldable pub toStarted : Plan → List ℕ → Work → Work
+unfolding setOut
+toStarted plan words w =
+    let s = pathless (solvedAt (w .stand .norms) (w .stand .end)) (w .stand .rs) (w .stand .norms) (w .stand .end) in
+    let d = startBy plan words (frontOf plan (w .floats)) s (plan .start) in
+    work (w .floats) (pathGiven plan s (d .gives) (pathErased (w .stand) (w .path))) (d .stand)
+
 -- back to the kept vectors, whose field had no end
 unfoldable pub toKept : Plan → Kept → Work → Work
 toKept plan k w =
@@ -240,13 +248,14 @@ toZero plan words w =
 
 abbrev pub fromOrigin : Plan → List ℕ → Origin → Work → Work
 fromOrigin plan words Origin.Here w = w
+fromOrigin plan words Origin.Started w = toStarted plan words w
 fromOrigin plan words Origin.Solved w = toSolved plan w
 fromOrigin plan words (Origin.Kept k) w = toKept plan k w
 fromOrigin plan words Origin.Zero w = toZero plan words w
 
 -- the place sought, by passes from its origin
 unfoldable pub seek : Plan → List ℕ → Mark → ℕ → Work → Work
-unfolding goes originOf toSolved toKept toZero
+unfolding goes originOf toStarted toSolved toKept toZero
 seek plan words mark target w =
     let o = fromOrigin plan words (originOf (plan .limit) (w .stand) mark target) w in
     goes plan words (target - o .stand .place) o

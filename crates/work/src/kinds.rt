@@ -18,7 +18,7 @@ ghost use lib.Dec.{leb, eqb};
 ghost use Rattle.binary64.specs.Number.{pick};
 ghost use Rattle.work.specs.Memory as Memory;
 ghost use Rattle.work.specs.Ready.{Steps};
-ghost use Rattle.work.specs.Kinds.{Steppable, Searchable, Crossable, Leads, foundBy, lostBy, gradientsPut};
+ghost use Rattle.work.specs.Kinds.{Steppable, Searchable, Crossable, SetsOut, Leads, foundBy, lostBy, gradientsPut};
 
 // The stand after a pass of solving.
 fn solved_stand(s: Stand, rs: f64, norms: usize, end: usize) -> Stand
@@ -130,13 +130,12 @@ fn walked_stand(s: Stand, walk: Walk, crossings: usize) -> Stand
     }
 }
 
-// The pass after solving: the gradients, and the first point or an end.
-fn begin_step(front: &mut [f64], words: &[u32], plan: Plan, stand: Stand) -> Step
-    requires { ⌜ Steppable plan (now words) (now front) stand ⌝ }
-    ensures { λ r. ⌜ Leads (Memory.beginStep plan (now (words .entry)) (now (front .entry)) stand) r (now (front .exit)) ⌝ }
+// The first point from where the field ended, or an end where no start is found.
+pub fn start_step(front: &[f64], words: &[u32], plan: Plan, stand: Stand) -> Step
+    requires { ⌜ Searchable plan (now words) (now front) × (stand .place < 1000000) ⌝ }
+    ensures { λ r. ⌜ SetsOut (Memory.startBy plan (now (words .entry)) (now (front .entry)) stand (plan .start)) r ⌝ }
 {
     let found = find_start(front, words, plan);
-    fill_gradients(front, words, plan);
     let Start::At(p, t, e) = found else {
         let given = plan.start;
         let s = walked_stand(stand, place::lost(lost_end(given)), 0);
@@ -157,6 +156,16 @@ fn begin_step(front: &mut [f64], words: &[u32], plan: Plan, stand: Stand) -> Ste
         stand: s,
         gives: Gives::First(p),
     }
+}
+
+// The pass after solving: the gradients, and the first point or an end.
+fn begin_step(front: &mut [f64], words: &[u32], plan: Plan, stand: Stand) -> Step
+    requires { ⌜ Steppable plan (now words) (now front) stand ⌝ }
+    ensures { λ r. ⌜ Leads (Memory.beginStep plan (now (words .entry)) (now (front .entry)) stand) r (now (front .exit)) ⌝ }
+{
+    let d = start_step(front, words, plan, stand);
+    fill_gradients(front, words, plan);
+    d
 }
 
 // ---- a crossing

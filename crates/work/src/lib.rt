@@ -64,9 +64,10 @@ pub enum Mark {
     At(Kept),
 }
 
-// From where a place is sought: on from here, from where the field ended, from the kept vectors, or from place 0.
+// From where a place is sought: on from here, from where the path started, from where the field ended, from the kept vectors, or from place 0.
 pub enum Origin {
     Here,
+    Started,
     Solved,
     Kept(Kept),
     Zero,

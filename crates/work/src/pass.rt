@@ -23,7 +23,7 @@ fn put_first(path: &mut [f64], p: Point)
 }
 
 // What a pass from `stand` gives is written: a norm behind the norms, points behind the points.
-fn deliver(floats: &mut [f64], path: &mut [f64], plan: Plan, stand: Stand, gives: Gives)
+pub fn deliver(floats: &mut [f64], path: &mut [f64], plan: Plan, stand: Stand, gives: Gives)
     requires { ⌜ Writable plan stand (length (now floats)) (length (now path)) ⌝ }
     ensures { λ _. ⌜ (now (floats .exit) ≡ floatsGiven plan stand gives (now (floats .entry))) × (now (path .exit) ≡ pathGiven plan stand gives (now (path .entry))) ⌝ }
 {

@@ -4,6 +4,7 @@ use crate::Mark;
 use crate::Origin;
 use crate::Plan;
 use crate::Stand;
+use crate::kinds;
 use crate::layout;
 use crate::pass;
 use crate::place;
@@ -40,7 +41,7 @@ fn from_mark(limit: usize, mark: Mark, target: usize) -> Origin
     Origin::Zero
 }
 
-// On from here; a place after the field's end from there; else from the kept vectors; else from place 0.
+// On from here; a place after the start pass from there, and one at the field's end from there; else from the kept vectors; else from place 0.
 fn origin(limit: usize, stand: Stand, mark: Mark, target: usize) -> Origin
     requires { ⌜ 1 ≤ stand .norms ⌝ }
     ensures { λ r. ⌜ r ≡ originOf limit stand mark target ⌝ }
@@ -51,7 +52,11 @@ fn origin(limit: usize, stand: Stand, mark: Mark, target: usize) -> Origin
     if stand.end == 0 {
         return from_mark(limit, mark, target);
     }
-    if solved_at(stand.norms, stand.end) <= target {
+    let at = solved_at(stand.norms, stand.end);
+    if at < target {
+        return Origin::Started;
+    }
+    if at <= target {
         return Origin::Solved;
     }
     from_mark(limit, mark, target)
@@ -104,6 +109,27 @@ fn to_solved(floats: &mut [f64], path: &mut [f64], plan: Plan, stand: Stand) -> 
     place::pathless(at, stand.rs, stand.norms, stand.end)
 }
 
+// Back to where the path started: the start is found again, and the gradients stand as they are.
+fn to_started(
+    floats: &mut [f64],
+    words: &[u32],
+    path: &mut [f64],
+    plan: Plan,
+    stand: Stand,
+) -> Stand
+    requires { ⌜ Ready plan (now words) × Erasable plan stand (now floats) (now path) ⌝ }
+    ensures { λ r. ⌜ Comes (Memory.toStarted plan (now (words .entry)) (work (now (floats .entry)) (now (path .entry)) stand)) r (now (floats .exit)) (now (path .exit)) ⌝ }
+{
+    erase_path(path, stand);
+    let at = solved_at(stand.norms, stand.end);
+    let s = place::pathless(at, stand.rs, stand.norms, stand.end);
+    let f = layout::at_norms(plan.n, plan.t);
+    let d = kinds::start_step(&floats[..f], words, plan, s);
+    let gives = d.gives;
+    pass::deliver(floats, path, plan, s, gives);
+    d.stand
+}
+
 // Back to the kept vectors, whose field had no end.
 fn to_kept(floats: &mut [f64], path: &mut [f64], plan: Plan, stand: Stand, k: Kept) -> Stand
     requires { ⌜ Erasable plan stand (now floats) (now path) ⌝ }
@@ -152,7 +178,7 @@ fn to_zero(floats: &mut [f64], words: &[u32], path: &mut [f64], plan: Plan, stan
     place::pathless(0, rs, 1, place::first_end(plan.limit))
 }
 
-// Each of the four ways back.
+// Each of the ways back.
 fn from_origin(
     floats: &mut [f64],
     words: &[u32],
@@ -166,6 +192,7 @@ fn from_origin(
 {
     match o {
         Origin::Here => stand,
+        Origin::Started => to_started(floats, words, path, plan, stand),
         Origin::Solved => to_solved(floats, path, plan, stand),
         Origin::Kept(k) => to_kept(floats, path, plan, stand, k),
         Origin::Zero => to_zero(floats, words, path, plan, stand),

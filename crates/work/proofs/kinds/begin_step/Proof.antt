@@ -1,58 +1,21 @@
--- `begin_step` meets its contract: with the start that is found, or with the end where none is, its stand is the definition's. Assumes nothing.
-use Rattle.work.proofs.LawsKinds.{begin-lost, begin-found}
+-- `begin_step` meets its contract: the start is found before the gradients are filled, which do not bear on it. Assumes nothing.
+use Rattle.work.proofs.LawsKinds.{begin-leads}
 use borrow.Author.Needs.{needs}
 use Rattle.work.proofs.kinds.begin_step.Statement.{statement}
 use Rattle.work.proofs.kinds.begin_step.Tie as tie
 
-find-start-requires : tie.Need-find-start-requires
-find-start-requires c κs = search needs
+start-step-requires : tie.Need-start-step-requires
+start-step-requires c κs = search needs
 
 fill-gradients-requires : tie.Need-fill-gradients-requires
 fill-gradients-requires c κs = search needs
-
-enum-known-found : tie.Need-enum-known-found
-enum-known-found c = search needs
-
-enum-told : tie.Need-enum-told
-enum-told c = search needs
-
-lost-end-requires : tie.Need-lost-end-requires
-lost-end-requires c κs = search needs
-
-lost-requires : tie.Need-lost-requires
-lost-requires c κs = search needs
-
-walked-stand-requires : tie.Need-walked-stand-requires
-walked-stand-requires c κs = search needs
 
 same-length : tie.Need-same-length
 same-length c = search needs
 
 returns : tie.Need-returns
-returns c = begin-lost _ _ _ _ _ _ _ _ _ (c .before .before .before .before .before .before .before .before .before .find-start .ensures) (c .before .before .before .before .before .before .before .fill-gradients .ensures) (c .before .before .before .enum-told .given .1) (c .before .before .lost-end .ensures) (c .before .lost .ensures) (c .walked-stand .ensures)
-
-walked-stand-requires-2 : tie.Need-walked-stand-requires-2
-walked-stand-requires-2 c κs = search needs
-
-same-length-2 : tie.Need-same-length-2
-same-length-2 c = search needs
-
-returns-2 : tie.Need-returns-2
-returns-2 c = begin-found _ _ _ _ _ _ _ _ _ _ (c .before .before .before .before .before .before .before .before .find-start .ensures) (c .before .before .before .before .before .before .fill-gradients .ensures) (c .before .before .found .given .1) (c .walked-stand2 .ensures)
+returns c = begin-leads _ _ _ _ _ _ (c .before .before .before .before .start-step .ensures) (c .before .before .fill-gradients .ensures)
 
 pub begin-step-spec : {M : Type 1} → statement M
 begin-step-spec =
-    tie.close
-    (tie.spec
-    find-start-requires
-    fill-gradients-requires
-    enum-known-found
-    enum-told
-    lost-end-requires
-    lost-requires
-    walked-stand-requires
-    same-length
-    returns
-    walked-stand-requires-2
-    same-length-2
-    returns-2)
+    tie.close (tie.spec start-step-requires fill-gradients-requires same-length returns)

@@ -1,5 +1,6 @@
--- `origin` meets its contract: its tests are the definition's, in the same order. Assumes nothing.
-use Rattle.work.proofs.LawsSeek.{origin-here, origin-unsolved, origin-solved, origin-before}
+-- `origin` meets its contract: its tests are the definition's. Assumes nothing.
+use native.Mathlib.Omega.{arith}
+use Rattle.work.proofs.LawsSeek.{origin-here, origin-unsolved, origin-started, origin-solved, origin-before}
 use borrow.Author.Needs.{needs}
 use Rattle.work.proofs.seek.origin.Statement.{statement}
 use Rattle.work.proofs.seek.origin.Tie as tie
@@ -17,13 +18,16 @@ solved-at-requires : tie.Need-solved-at-requires
 solved-at-requires c κs = search needs
 
 returns-3 : tie.Need-returns-3
-returns-3 c = origin-solved _ _ _ _ _ (c .before .before .before .before .if1 .left) (c .before .before .if2 .left) (c .before .solved-at .ensures) (c .if3 .taken)
+returns-3 c = origin-started _ _ _ _ _ (c .before .before .before .before .if1 .left) (c .before .before .if2 .left) (c .before .solved-at .ensures) (c .if3 .taken)
+
+returns-4 : tie.Need-returns-4
+returns-4 c = origin-solved _ _ _ _ _ (c .before .before .before .before .before .if1 .left) (c .before .before .before .if2 .left) (c .before .before .solved-at .ensures) (c .before .if3 .left) (c .if4 .taken)
 
 from-mark-requires-2 : tie.Need-from-mark-requires-2
 from-mark-requires-2 c κs = search needs
 
-returns-4 : tie.Need-returns-4
-returns-4 c = origin-before _ _ _ _ _ _ (c .before .before .before .before .before .if1 .left) (c .before .before .before .if2 .left) (c .before .before .solved-at .ensures) (c .before .if3 .left) (c .from-mark2 .ensures)
+returns-5 : tie.Need-returns-5
+returns-5 c = origin-before _ _ _ _ _ _ (c .before .before .before .before .before .before .if1 .left) (c .before .before .before .before .if2 .left) (c .before .before .before .solved-at .ensures) (c .before .if4 .left) (c .from-mark2 .ensures)
 
 pub origin-spec : {M : Type 1} → statement M
 origin-spec =
@@ -34,5 +38,6 @@ origin-spec =
     returns-2
     solved-at-requires
     returns-3
+    returns-4
     from-mark-requires-2
-    returns-4)
+    returns-5)

@@ -19,7 +19,7 @@ go-requires c κs =
     let q = c .before .before .before .before .before .before .before .before .before .before .before .before .before .before .pre in
     let e = c .before .before .before .before .before .before .before .from-origin .ensures in
     let h = sought-place _ _ _ _ _ _ _ _ _ (c .before .before .before .before .before .before .before .before .before .before .origin .ensures) e in
-    (q .ready, sought-standing _ _ _ _ _ _ _ _ _ (c .before .before .before .before .before .before .before .before .before .before .origin .ensures) e (q .standing) (q .keeping), omega (arith, q .near, q .ready .limit-most, q .ready .t-most), search needs)
+    (q .ready, sought-standing _ _ _ _ _ _ _ _ _ (c .before .before .before .before .before .before .before .before .before .before .origin .ensures) e (q .ready) (q .standing) (q .keeping), omega (arith, q .near, q .ready .limit-most, q .ready .t-most), search needs)
 
 same-length : tie.Need-same-length
 same-length c = search needs
