@@ -17,7 +17,7 @@ use std::hint::black_box;
 use std::time::Instant;
 
 /// How often each side is timed; the least time counts.
-const ROUNDS: usize = 7;
+const ROUNDS: usize = 25;
 
 /// How many passes are timed together.
 const PASSES: u32 = 200;
@@ -157,6 +157,7 @@ fn ring(content: &Content) -> Vec<Timed> {
     for (k, (what, calls, call)) in ways.into_iter().enumerate() {
         let time = least(|| Opened::after(content, &sheet, &calls), |o| o.call(call));
         if k == 0 {
+            println!("    back 1 from the last place, against the library's own crossings: {time:.3}, {crossings:.3}, ratio {:.2}", time / crossings);
             show(&mut all, "back 1 from the last place, against the crossings", time, tracing - gradients);
         }
         show(&mut all, what, time, whole_rust);
