@@ -13,8 +13,8 @@ const LEADING: u64 = 0x0010_0000_0000_0000;
 // The pattern of -0: the sign's bit alone, 2^63.
 const SIGN: u64 = 0x8000_0000_0000_0000;
 
-// Less half the pattern of x, this is the pattern of 1 / sqrt(x) to within 1 part in 29.
-const MAGIC: u64 = 0x5fe6_eb50_c7b5_37a9;
+// Less half the pattern of x, this is the pattern of y with x · y² from 1.484 to 1.670.
+const MAGIC: u64 = 0x5feb_e000_0000_0000;
 
 // The weight of the upper part of the root's 53 digits: 2^26.
 const HALF: u64 = 0x0400_0000;
@@ -58,19 +58,21 @@ fn digits_rounded(operand: u64) -> u64
 }
 
 // A guess in floats at the pattern of x's root, two below it: with the digits that are wrong, one to
-// three below. Nothing is claimed of it: `nearest_root` tests it. y nears 1 / sqrt(x) by two steps of
-// Newton's, and s nears sqrt(x) by a step of the next order. The first step falls short, so its
-// constant is a little above 1.5.
+// three below. Nothing is claimed of it: `nearest_root` tests it. w is x · y², z = y · w^(−1/2) nears
+// 1 / sqrt(x) by a polynomial of degree 5 in w, to 3 parts in 10^10, and r = x · z nears the root by
+// one step of Newton's.
 fn guess(x: f64, bits: u64) -> u64
     requires { ⌜ bits < 2047 * 2 ^ 52 ⌝ }
 {
-    let h = 0.5 * x;
-    let mut y = f64::from_bits(MAGIC - bits / 2);
-    y = y * (1.5008909 - h * y * y);
-    y = y * (1.5 - h * y * y);
-    let mut s = x * y;
-    let e = 1.0 - s * y;
-    s = s + s * e * (0.5 + 0.375 * e);
+    let y = f64::from_bits(MAGIC - bits / 2);
+    let w = x * y * y;
+    let v = w * w;
+    let low = y * (2.1573255930123936 - 2.2829490008516924 * w);
+    let middle = y * v * (1.738835389907407 - 0.78806270621754 * w);
+    let high = y * (v * v) * (0.194386496374889 - 0.020168578408001552 * w);
+    let z = low + middle + high;
+    let r = x * z;
+    let s = r + 0.5 * r * (1.0 - r * z);
     if s != s {
         return 0;
     }
