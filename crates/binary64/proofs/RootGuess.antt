@@ -1,6 +1,6 @@
 -- A root guessed and made certain: what the square of a · 2^26 + b leaves, product by product, and how far the nearest root is from there.
 -- The whole number p + 1 is the nearest to the root of y where y is above p² + p and at most p² + 3p + 2, the squares of the midpoints beside it less a quarter. Assumes nothing.
-use mathlib.Core.Path.{_≡_, refl, sym, ap, _∙_, subst}
+use mathlib.Core.Path.{_≡_, refl, _∙_, subst}
 use mathlib.Core.Bool.{Bool, true, false}
 use Prim.Native.Nat.{ℕ, _+_, _-_, _*_, _/_, _%_, _^_, _≤_, _<_}
 use native.Mathlib.Nat.{mul-le-mul}

@@ -1,5 +1,5 @@
 -- Laws of the kinds of pass that the proofs share. Assumes nothing.
-use mathlib.Core.Path.{_≡_, refl, sym, ap, ap₂, _∙_}
+use mathlib.Core.Path.{_≡_, refl, sym, ap, _∙_}
 use mathlib.Core.Logic.{inl}
 use mathlib.Core.Bool.{Bool}
 use mathlib.Core.List.{List}

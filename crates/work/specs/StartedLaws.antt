@@ -3,12 +3,11 @@ use Prim.Native.Nat.{ℕ, _+_, _*_, _≤_}
 use mathlib.Core.Path.{_≡_, refl, sym, ap, _∙_}
 use mathlib.Core.List.{List}
 use native.Mathlib.Omega.{arith}
-use lib.Dec.{eqb}
 use lib.ListN.{replicate}
 use lib.Ieee.{Float}
 use borrow.Author.Tests.{ne-eqb}
 use Rattle.binary64.specs.Constants.{plusZero}
-use Rattle.stretch.specs.Stretch.{part, splice}
+use Rattle.stretch.specs.Stretch.{part}
 use Rattle.stretch.specs.StretchLaws.{part-of-take, part-splice-before}
 use Rattle.pde.specs.declared.Start.{Start}
 use Rattle.model.specs.SolvedPlace.{solvedAt}
@@ -16,8 +15,8 @@ use Rattle.work.specs.declared.Given.{Given}
 use Rattle.work.specs.declared.Gives.{Gives}
 use Rattle.work.specs.declared.Plan.{Plan}
 use Rattle.work.specs.declared.Stand.{Stand}
-use Rattle.work.specs.Layout.{atX, atGradients, atNorms, atNeighbours, atTags}
-use Rattle.work.specs.Memory.{Stepped, setOut, graded, startBy, beginStep, nextOf, stepOn, Work, work, frontOf, floatsGiven, pathGiven, once, pathless, pathErased, gradientsErased, toSolved, toStarted}
+use Rattle.work.specs.Layout.{atX, atGradients, atNorms}
+use Rattle.work.specs.Memory.{Stepped, setOut, graded, startBy, beginStep, nextOf, stepOn, Work, frontOf, floatsGiven, pathGiven, once, pathless, pathErased, gradientsErased, toSolved, toStarted}
 use Rattle.work.specs.Kinds.{foundBy, lostBy}
 
 -- a start pass gives no norm

@@ -1,5 +1,5 @@
 -- `origin` meets its contract: its tests are the definition's. Assumes nothing.
-use native.Mathlib.Omega.{arith}
+
 use Rattle.work.proofs.LawsSeek.{origin-here, origin-unsolved, origin-started, origin-solved, origin-before}
 use borrow.Author.Needs.{needs}
 use Rattle.work.proofs.seek.origin.Statement.{statement}

@@ -1,6 +1,5 @@
 -- `to_started` meets its contract: the path is erased, and the first point from the field's end is put down; no norm is given. Assumes nothing.
 use mathlib.Core.Path.{sym, _∙_}
-use native.Mathlib.Omega.{arith}
 use lib.Seq.{length-take-le}
 use Rattle.work.proofs.LawsSeek.{started-near, started-writable, started-comes}
 use borrow.Author.Needs.{needs}
