@@ -116,8 +116,8 @@ fn one_where(b: bool) -> u64
     if b { 1 } else { 0 }
 }
 
-// The same from a guess, where that is one to three below it. Between q + k and the next lies the square q² + (2k + 1) q + k (k + 1), and
-// a quarter more.
+// The same from a guess, where that is one to three below it. The square of what lies half way
+// between q + k and the next is q² + (2k + 1) q + k (k + 1) and a quarter.
 fn nearest_root(operand: u64, q: u64) -> u64
     requires { ⌜ operand < 2 ^ 54 ⌝ }
     ensures { λ r. ⌜ r ≡ (wholeRoot 54 (operand * 2 ^ 54) + 1) / 2 ⌝ }
