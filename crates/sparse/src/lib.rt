@@ -90,7 +90,7 @@ fn rest(
     sum
 }
 
-// The same, with the next two entries, which most rows have at the most, before the loop.
+// The same; two entries are taken before the loop, and most rows have no more.
 fn rest_of_few(
     cols: &[u32],
     values: &[f64],

@@ -42,7 +42,7 @@ use Rattle.work.specs.declared.Plan.{Plan}
 use Rattle.work.specs.declared.Stand.{Stand}
 use Rattle.work.specs.declared.Step.{Step}
 use Rattle.work.specs.Layout.{atX, atR, atP, atProduct, atGradients, atNorms, matrixAt, meshAt, vectorsAt}
-use Rattle.work.specs.Memory.{Stepped, vectorsIn, solvedStand, solvedStep, solveStep, setOut, walkedStand, crossedStand, startBy, beginStep, crossingOf, crossStep, nextOf, stepOn, work, once}
+use Rattle.work.specs.Memory.{Stepped, vectorsIn, solvedStand, solvedStep, solveStep, setOut, walkedStand, crossedStand, startBy, beginStep, crossingFrom, crossingOf, crossStep, nextOf, stepOn, work, once}
 use Rattle.work.specs.Ready.{Ready, Standing, Crosses, Steps, Comes}
 use Rattle.work.specs.Kinds.{SetsOut, Searchable, Leads, gradientsPut, foundBy, lostBy}
 use Rattle.work.specs.StartedLaws.{start-is}
@@ -186,10 +186,10 @@ begin-leads plan words f s d f′ o e = record {
 
 -- ---- a crossing
 
-pub crossing-is : (plan : Plan) (words : List ℕ) (f : List Float) (s : Stand) (m : Mesh) (u at : ℕ) (r : Crossing) → m ≡ meshAt (plan .n) (plan .t) → u ≡ atX (plan .n) (plan .t)
-    → at ≡ atGradients (plan .n) (plan .t) → r ≡ crossingIn f words m u at rule (plan .step) (s .walk .position) (s .walk .triangle) (s .walk .edge) → r ≡ crossingOf plan words f s
+pub crossing-is : (plan : Plan) (words : List ℕ) (f : List Float) (p : Point) (k e : ℕ) (m : Mesh) (u at : ℕ) (r : Crossing) → m ≡ meshAt (plan .n) (plan .t) → u ≡ atX (plan .n) (plan .t)
+    → at ≡ atGradients (plan .n) (plan .t) → r ≡ crossingIn f words m u at rule (plan .step) p k e → r ≡ crossingFrom plan words f p k e
 unfolding verticesOf trianglesOf neighboursOf fieldOf gradientsOf
-crossing-is plan words f s m u at r em eu ea e = rw (em, eu, ea) at e
+crossing-is plan words f p k e m u at r em eu ea is = rw (em, eu, ea) at is
 
 pub crossed-is : (plan : Plan) (s : Stand) (c : Crossing) (last : Bool) (w : Walk) (s′ : Stand)
     → last ≡ eqb (s .crossings + 1) (20 * plan .t) → w ≡ walked (plan .room) last (s .walk) c → s′ ≡ walkedStand s w (s .crossings + 1) → s′ ≡ crossedStand plan s c

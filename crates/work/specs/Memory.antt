@@ -14,6 +14,7 @@ use Rattle.mesh.specs.Element.{flat}
 use Rattle.conjugate.specs.Solver as Solver
 use Rattle.conjugate.specs.Solver.{Solve, Turn, halted, reached, moved, begun}
 use Rattle.gradient.specs.Gradient.{gradients}
+use Rattle.plane.specs.declared.Point.{Point}
 use Rattle.pde.specs.declared.Start.{Start}
 use Rattle.pde.specs.declared.Walk.{Walk}
 use Rattle.pde.specs.declared.Crossing.{Crossing}
@@ -75,7 +76,7 @@ unfoldable pub setOut : Stand → List Float → ℕ → Start → Stepped
 setOut s f otherwise (Start.At p t e) = stepped f (walkedStand s (record { position = p; triangle = t; edge = e; points = 1; end = 0 }) 0) (Gives.First p)
 setOut s f otherwise Start.Nothing = stepped f (walkedStand s (ended nowhere otherwise) 0) Gives.Nothing
 
-module _ (plan : Plan) (words : List ℕ) (f : List Float) (s : Stand) where
+module _ (plan : Plan) (words : List ℕ) (f : List Float) where
   abbrev n : ℕ
   n = plan .n
 
@@ -97,32 +98,37 @@ module _ (plan : Plan) (words : List ℕ) (f : List Float) (s : Stand) where
   abbrev tags : List ℕ
   tags = part words (atTags t) n
 
-  unfoldable pub solveStep : Stepped
-  unfolding solvedStep
-  solveStep = solvedStep plan s f (Solver.pass flat (matrix words f (matrixAt n t)) (plan .tolerance) (vectorsIn n t f (s .rs)))
+  -- what crossing triangle k from p, entered by edge e, comes to
+  abbrev pub crossingFrom : Point → ℕ → ℕ → Crossing
+  crossingFrom p k e = crossing rule vs ts ns t us (part f (atGradients n t) (2 * t)) (plan .step) p k e
 
-  abbrev pub graded : List Float
-  graded = splice f (atGradients n t) (gradients flat vs us ts)
+  module _ (s : Stand) where
+    unfoldable pub solveStep : Stepped
+    unfolding solvedStep
+    solveStep = solvedStep plan s f (Solver.pass flat (matrix words f (matrixAt n t)) (plan .tolerance) (vectorsIn n t f (s .rs)))
 
-  abbrev pub startBy : Given → Stepped
-  startBy (Given.At p) = setOut s graded 8 (triangleContaining vs ts t p)
-  startBy Given.Nothing = setOut s graded 9 (pickStart vs ts ns tags t us)
+    abbrev pub graded : List Float
+    graded = splice f (atGradients n t) (gradients flat vs us ts)
 
-  unfoldable pub beginStep : Stepped
-  unfolding setOut
-  beginStep = startBy (plan .start)
+    abbrev pub startBy : Given → Stepped
+    startBy (Given.At p) = setOut s graded 8 (triangleContaining vs ts t p)
+    startBy Given.Nothing = setOut s graded 9 (pickStart vs ts ns tags t us)
 
-  abbrev pub crossingOf : Crossing
-  crossingOf = crossing rule vs ts ns t us (part f (atGradients n t) (2 * t)) (plan .step) (s .walk .position) (s .walk .triangle) (s .walk .edge)
+    unfoldable pub beginStep : Stepped
+    unfolding setOut
+    beginStep = startBy (plan .start)
 
-  unfoldable pub crossStep : Stepped
-  crossStep = stepped f (crossedStand plan s crossingOf) (Gives.Crossed crossingOf)
+    abbrev pub crossingOf : Crossing
+    crossingOf = crossingFrom (s .walk .position) (s .walk .triangle) (s .walk .edge)
 
-  abbrev pub stepBy : Next → Stepped
-  stepBy over = stepped f s Gives.Nothing
-  stepBy solve = solveStep
-  stepBy begin = beginStep
-  stepBy cross = crossStep
+    unfoldable pub crossStep : Stepped
+    crossStep = stepped f (crossedStand plan s crossingOf) (Gives.Crossed crossingOf)
+
+    abbrev pub stepBy : Next → Stepped
+    stepBy over = stepped f s Gives.Nothing
+    stepBy solve = solveStep
+    stepBy begin = beginStep
+    stepBy cross = crossStep
 
 -- which pass is next, from the ends alone
 unfoldable pub nextOf : Stand → Next

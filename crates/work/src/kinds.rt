@@ -12,6 +12,7 @@ use pde::Crossing;
 use pde::Rule;
 use pde::Start;
 use pde::Walk;
+use plane::Point;
 ghost use mathlib.Core.Path.{_≡_};
 ghost use Prim.Native.Nat.{_+_, _*_, _≤_, _<_};
 ghost use lib.Dec.{leb, eqb};
@@ -170,10 +171,17 @@ fn begin_step(front: &mut [f64], words: &[u32], plan: Plan, stand: Stand) -> Ste
 
 // ---- a crossing
 
-// What crossing the path's triangle comes to.
-pub fn crossing_of(front: &[f64], words: &[u32], plan: Plan, stand: Stand) -> Crossing
-    requires { ⌜ Searchable plan (now words) (now front) × (stand .walk .triangle < plan .t) ⌝ }
-    ensures { λ r. ⌜ r ≡ Memory.crossingOf plan (now (words .entry)) (now (front .entry)) stand ⌝ }
+// What crossing a triangle from a point, entered by an edge, comes to.
+pub fn crossing_of(
+    front: &[f64],
+    words: &[u32],
+    plan: Plan,
+    from: Point,
+    triangle: usize,
+    edge: usize,
+) -> Crossing
+    requires { ⌜ Searchable plan (now words) (now front) × (triangle < plan .t) ⌝ }
+    ensures { λ r. ⌜ r ≡ Memory.crossingFrom plan (now (words .entry)) (now (front .entry)) from triangle edge ⌝ }
 {
     let m = layout::mesh_at(plan.n, plan.t);
     let u = layout::at_x(plan.n, plan.t);
@@ -183,8 +191,6 @@ pub fn crossing_of(front: &[f64], words: &[u32], plan: Plan, stand: Stand) -> Cr
         above: Run::ABOVE,
         spacing: Run::SPACING,
     };
-    let walk = stand.walk;
-    let from = walk.position;
     pde::cross::crossing(
         front,
         words,
@@ -194,8 +200,8 @@ pub fn crossing_of(front: &[f64], words: &[u32], plan: Plan, stand: Stand) -> Cr
         rule,
         plan.step,
         from,
-        walk.triangle,
-        walk.edge,
+        triangle,
+        edge,
     )
 }
 
@@ -224,7 +230,9 @@ fn cross_step(front: &[f64], words: &[u32], plan: Plan, stand: Stand) -> Step
     requires { ⌜ Crossable plan (now words) (now front) stand ⌝ }
     ensures { λ r. ⌜ Leads (Memory.crossStep plan (now (words .entry)) (now (front .entry)) stand) r (now (front .entry)) ⌝ }
 {
-    let c = crossing_of(front, words, plan, stand);
+    let walk = stand.walk;
+    let from = walk.position;
+    let c = crossing_of(front, words, plan, from, walk.triangle, walk.edge);
     let s = crossed(plan, stand, c);
     Step {
         stand: s,

@@ -60,8 +60,9 @@ fn cross(floats: &[f64], words: &[u32], path: &mut [f64], plan: Plan, stand: Sta
     ensures { λ r. ⌜ Comes (Memory.once plan (now (words .entry)) (work (now (floats .entry)) (now (path .entry)) stand)) r (now (floats .entry)) (now (path .exit)) ⌝ }
 {
     let f = crate::layout::at_norms(plan.n, plan.t);
-    let c = crate::kinds::crossing_of(&floats[..f], words, plan, stand);
     let walk = stand.walk;
+    let from = walk.position;
+    let c = crate::kinds::crossing_of(&floats[..f], words, plan, from, walk.triangle, walk.edge);
     pde::path::put_added(path, plan.room, walk, c);
     crate::kinds::crossed(plan, stand, c)
 }
@@ -71,9 +72,6 @@ fn once(floats: &mut [f64], words: &[u32], path: &mut [f64], plan: Plan, stand: 
     requires { ⌜ Ready plan (now words) × Standing plan stand × (stand .place < 1000000) × Roomy plan (now floats) (now path) × (stand .walk .end ≡ 0) ⌝ }
     ensures { λ r. ⌜ Comes (Memory.once plan (now (words .entry)) (work (now (floats .entry)) (now (path .entry)) stand)) r (now (floats .exit)) (now (path .exit)) ⌝ }
 {
-    if crosses(stand) {
-        return cross(floats, words, path, plan, stand);
-    }
     let f = crate::layout::at_norms(plan.n, plan.t);
     let d = crate::kinds::step(&mut floats[..f], words, plan, stand);
     let gives = d.gives;
@@ -100,7 +98,11 @@ pub fn go(
         if walk.end != 0 {
             return s;
         }
-        let next = once(floats, words, path, plan, s);
+        let next = if crosses(s) {
+            cross(floats, words, path, plan, s)
+        } else {
+            once(floats, words, path, plan, s)
+        };
         s = next;
         i += 1;
     }

@@ -14,10 +14,14 @@ at-gradients-requires : tie.Need-at-gradients-requires
 at-gradients-requires c κs = search needs
 
 crossing-requires : tie.Need-crossing-requires
-crossing-requires c κs = (front-graded (c .before .before .before .before .before .before .before .args .plan) _ _ _ (c .before .before .before .before .mesh-at .ensures) (c .before .before .before .before .before .before .before .pre .0) _ _ (c .before .before .before .at-x .ensures) (c .before .before .at-gradients .ensures), triangle-in-mesh _ (c .before .before .before .before .before .before .before .args .plan) _ (c .before .before .before .before .mesh-at .ensures) (c .before .before .before .before .before .before .before .pre .1))
+crossing-requires c κs =
+    let s = c .before .before .before .before .before in
+    (front-graded (s .args .plan) _ _ _ (c .before .before .mesh-at .ensures) (s .pre .0) _ _ (c .before .at-x .ensures) (c .at-gradients .ensures), triangle-in-mesh _ (s .args .plan) _ (c .before .before .mesh-at .ensures) (s .pre .1))
 
 returns : tie.Need-returns
-returns c = crossing-is (c .before .before .before .before .before .before .before .before .args .plan) _ _ (c .before .before .before .before .before .before .before .before .args .stand) _ _ _ _ (c .before .before .before .before .before .mesh-at .ensures) (c .before .before .before .before .at-x .ensures) (c .before .before .before .at-gradients .ensures) (c .crossing .ensures)
+returns c =
+    let s = c .before .before .before .before .before .before .args in
+    crossing-is (s .plan) _ _ (s .from) (s .triangle) (s .edge) _ _ _ _ (c .before .before .before .mesh-at .ensures) (c .before .before .at-x .ensures) (c .before .at-gradients .ensures) (c .crossing .ensures)
 
 pub crossing-of-spec : {M : Type 1} → statement M
 crossing-of-spec =
