@@ -3,9 +3,9 @@ use Prim.Native.Nat.{ℕ, suc, _+_, _-_, _*_, _≤_, _<_}
 use native.Mathlib.Numerals.{add-one}
 use native.Mathlib.Omega.{arith}
 use mathlib.Core.Path.{_≡_, refl, sym, ap, _∙_}
-use mathlib.Core.Bool.{true, false}
+use mathlib.Core.Bool.{Bool, true, false, _&&_}
 use mathlib.Core.List.{List, [], _∷_, _++_}
-use lib.Dec.{eqb}
+use lib.Dec.{leb, eqb}
 use lib.Ieee.{Float, nan}
 use lib.ListN.{length, getD, set, drop, replicate, length-set, length-replicate, drop-of-length-le}
 use lib.Seq.{drop-cons}
@@ -16,16 +16,17 @@ use Rattle.binary64.specs.Number.{pick}
 use Rattle.stretch.specs.Stretch.{part, splice, Wrote}
 use Rattle.stretch.specs.StretchLaws.{length-part, getD-part, part-zero, part-suc, splice-part, splice-splice-same, got, kept-before, as-long, getD-splice-after}
 use Rattle.stretch.specs.LoopLaws.{write-none, write-step}
+use Rattle.sparse.specs.ScanLaws.{both}
 use Rattle.laplace.specs.declared.Places.{Places}
 use Rattle.laplace.specs.declared.element.Side.{Side}
 use Rattle.laplace.specs.declared.element.Stiff.{Stiff}
 use Rattle.laplace.specs.declared.element.Triangle.{Triangle}
 use Rattle.laplace.specs.Mesh.{tagOf, free, heldValue}
 use Rattle.laplace.specs.Assembly.{Push, push, nine, trianglePushes, pushes, lowered, coupled, allCoupled, settled, rightSide}
-use Rattle.laplace.specs.Element.{stiffIn, triangleOf}
+use Rattle.laplace.specs.Element.{Within, stiffIn, triangleOf}
 use Rattle.laplace.specs.Laid.{LaidFloats, LaidWords}
 use Rattle.laplace.specs.Row.{sideOf, verticesIn, cornersIn, tagsIn}
-use Rattle.laplace.specs.Right.{sidePushes, stiffPushes, coupledBy, settledValue, Couples}
+use Rattle.laplace.specs.Right.{sidePushes, stiffPushes, allFree, coupledBy, settledValue, Couples}
 use Rattle.laplace.proofs.LawsInsert.{replaced}
 use Rattle.laplace.proofs.LawsElement.{triangle-pushes}
 
@@ -139,6 +140,46 @@ pub skipped-coupled : (f : List Float) (w : List ℕ) (n right at : ℕ) → Cou
     → Wrote f f right n (allCoupled heldValue tags (stiffPushes q s) (part f right n))
 unfolding stiffPushes allCoupled
 skipped-coupled f w n right at c tags q s y = rw y (wrote-same f w n right at c)
+
+-- ---- a triangle whose corners are free
+
+module _ (tags : List ℕ) where
+  free-both : (p : Push) (rhs : List Float) → free tags (p .row) ≡ true → free tags (p .col) ≡ true → coupled heldValue tags p rhs ≡ rhs
+  free-both p rhs a b = rw (a, b) (same (leb (p .row) (p .col)))
+    where
+      same : (t : Bool) → pick t rhs rhs ≡ rhs
+      same true = refl
+      same false = refl
+
+  free-on : (p : Push) (ps : List Push) (rhs : List Float) → free tags (p .row) ≡ true → free tags (p .col) ≡ true → allCoupled heldValue tags (p ∷ ps) rhs ≡ allCoupled heldValue tags ps rhs
+  unfolding allCoupled
+  free-on p ps rhs a b = ap (allCoupled heldValue tags ps) (free-both p rhs a b)
+
+  free-none : (rhs : List Float) → allCoupled heldValue tags [] rhs ≡ rhs
+  unfolding allCoupled
+  free-none rhs = refl
+
+  free-nine : (q : Triangle) (s : Stiff) (rhs : List Float) → free tags (q .i) ≡ true → free tags (q .j) ≡ true → free tags (q .k) ≡ true → allCoupled heldValue tags (stiffPushes q s) rhs ≡ rhs
+  unfolding stiffPushes
+  free-nine q s rhs i j k = go (s .skipped)
+    where
+      go : (t : Bool) → allCoupled heldValue tags (pick t [] (nine (q .i) (q .j) (q .k) (s .ii) (s .ij) (s .ik) (s .jj) (s .jk) (s .kk))) rhs ≡ rhs
+      go true = free-none rhs
+      go false =
+          free-on _ _ rhs i i ∙ free-on _ _ rhs i j ∙ free-on _ _ rhs i k ∙ free-on _ _ rhs j i ∙ free-on _ _ rhs j j ∙ free-on _ _ rhs j k ∙ free-on _ _ rhs k i ∙ free-on _ _ rhs k j ∙ free-on _ _ rhs k k ∙ free-none rhs
+
+pub all-free : (w : List ℕ) (n at : ℕ) (q : Triangle) → Within n q → (a b c : ℕ) → a ≡ q .i → b ≡ q .j → c ≡ q .k
+    → (eqb (getD w (at + a) 0) 0 && eqb (getD w (at + b) 0) 0 && eqb (getD w (at + c) 0) 0) ≡ allFree (part w at n) q
+unfolding allFree free tagOf
+all-free w n at q h a b c ea eb ec = rw (ea, eb, ec, getD-part w at n (q .i) 0 (h .i), getD-part w at n (q .j) 0 (h .j), getD-part w at n (q .k) 0 (h .k))
+
+pub free-coupled : (f : List Float) (w : List ℕ) (n right at : ℕ) → Couples f w n right at → (q : Triangle) (s : Stiff) → allFree (part w at n) q ≡ true
+    → Wrote f f right n (allCoupled heldValue (part w at n) (stiffPushes q s) (part f right n))
+unfolding allFree
+free-coupled f w n right at c q s y =
+    let b = both _ _ y in
+    let a = both _ _ (b .0) in
+    rw (free-nine (part w at n) q s (part f right n) (a .0) (a .1) (b .1)) (wrote-same f w n right at c)
 
 -- ---- all triangles
 

@@ -8,13 +8,14 @@ use crate::element::side_of;
 use crate::element::stiff_at;
 use crate::element::triangle_at;
 ghost use mathlib.Core.Path.{_≡_};
-ghost use Prim.Native.Nat.{_+_, _*_, _<_};
+ghost use Prim.Native.Nat.{_+_, _*_, _≤_, _<_};
 ghost use lib.Ieee.{nan};
 ghost use lib.ListN.{length, getD, set};
 ghost use Rattle.binary64.specs.Arith.{_⊖_, _⊗_};
 ghost use Rattle.stretch.specs.Stretch.{part, Wrote};
 ghost use Rattle.laplace.specs.Mesh.{heldValue};
 ghost use Rattle.laplace.specs.Assembly as Assembly;
+ghost use Rattle.laplace.specs.Element as Element;
 ghost use Rattle.laplace.specs.Element.{Within};
 ghost use Rattle.laplace.specs.Laid.{LaidFloats, LaidWords};
 ghost use Rattle.laplace.specs.Row.{tagsIn};
@@ -120,6 +121,38 @@ fn couple_triangle(
     couple_side(floats, words, n, right, tags, q.k, q, c);
 }
 
+// Whether the corners of a triangle are free.
+fn is_free(words: &[u32], n: usize, tags: usize, q: Triangle) -> bool
+    requires { ⌜ (tags + n ≤ length (now words)) × Within n q ⌝ }
+    ensures { λ r. ⌜ r ≡ Right.allFree (part (now (words .entry)) tags n) q ⌝ }
+{
+    let a = tags + wide(q.i);
+    let b = tags + wide(q.j);
+    let c = tags + wide(q.k);
+    (words[a] == 0) & (words[b] == 0) & (words[c] == 0)
+}
+
+// Those of the triangle q of the mesh: nothing where its corners are free.
+fn couple_corners(
+    floats: &mut [f64],
+    words: &[u32],
+    n: usize,
+    vertices: usize,
+    right: usize,
+    tags: usize,
+    q: Triangle,
+)
+    requires { ⌜ Right.Couples (now floats) (now words) n right tags × (vertices + 2 * n ≤ length (now floats)) × Within n q ⌝ }
+    ensures { λ _. ⌜ Wrote (now (floats .entry)) (now (floats .exit)) right n
+        (Assembly.allCoupled heldValue (part (now (words .entry)) tags n) (Right.stiffPushes q (Element.stiffIn (part (now (floats .entry)) vertices (2 * n)) q)) (part (now (floats .entry)) right n)) ⌝ }
+{
+    if is_free(words, n, tags, q) {
+        return;
+    }
+    let s = stiff_at(floats, vertices, n, q);
+    couple_triangle(floats, words, n, right, tags, q, s);
+}
+
 // Those of all triangles.
 fn couple_all(floats: &mut [f64], words: &[u32], n: usize, t: usize, at: Places)
     requires { ⌜ LaidFloats (now floats) n t at × LaidWords (now words) n t at ⌝ }
@@ -128,8 +161,7 @@ fn couple_all(floats: &mut [f64], words: &[u32], n: usize, t: usize, at: Places)
 {
     for i in 0..t {
         let q = triangle_at(words, at.triangles, t, i, n);
-        let s = stiff_at(floats, at.vertices, n, q);
-        couple_triangle(floats, words, n, at.right, at.tags, q, s);
+        couple_corners(floats, words, n, at.vertices, at.right, at.tags, q);
     }
 }
 

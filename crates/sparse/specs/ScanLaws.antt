@@ -14,7 +14,7 @@ use Rattle.sparse.specs.declared.Csr.{Csr}
 use Rattle.sparse.specs.Stored.{start, end, Rising, Below, Sound}
 use Rattle.sparse.specs.Scan.{allBelow, risesFrom, rises}
 
-both : (a b : Bool) → (a && b) ≡ true → (a ≡ true) × (b ≡ true)
+pub both : (a b : Bool) → (a && b) ≡ true → (a ≡ true) × (b ≡ true)
 both true b e = (refl, e)
 both false b e = absurd (false≢true e)
 

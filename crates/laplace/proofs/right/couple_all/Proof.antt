@@ -1,9 +1,8 @@
 -- `couple_all` meets its contract: before each turn, what the triangles ahead couple to the right side so far is what all triangles couple to it at entry. Assumes nothing.
-use mathlib.Core.Path.{_≡_}
+use mathlib.Core.Path.{refl}
 use Prim.Native.Nat.{_-_}
 use native.Mathlib.Omega.{arith}
 use borrow.Author.Needs.{needs}
-use lib.ListN.{length}
 use Rattle.laplace.proofs.LawsRight.{Coupling, coupling-none, coupling-long, coupling-couples, coupling-again, coupling-done}
 use Rattle.laplace.proofs.right.couple_all.Statement.{statement}
 use Rattle.laplace.proofs.right.couple_all.Tie as tie
@@ -20,14 +19,12 @@ loop-holds c = coupling-none _ _ _ _ _ (c .before .before .pre .0) (c .before .b
 triangle-at-requires : tie.Need-triangle-at-requires Inv-loop μ-loop
 triangle-at-requires c κs = (omega arith, c .loop-test .taken, c .before .before .before .before .pre .1 .corners)
 
-stiff-at-requires : tie.Need-stiff-at-requires Inv-loop μ-loop
-stiff-at-requires c κs = let pre = c .before .before .before .before .before .before .pre in
-    let l : length (c .before .before .before .loop .floats) ≡ length (c .before .before .before .before .before .before .args .floats .now) = coupling-long _ _ _ _ _ (pre .0) (pre .1) _ _ (c .before .before .before .loop .inv) in
-    (omega arith, c .before .triangle-at .ensures .1)
-
-couple-triangle-requires : tie.Need-couple-triangle-requires Inv-loop μ-loop
-couple-triangle-requires c κs = let pre = c .before .before .before .before .before .before .before .before .pre in
-    (coupling-couples _ _ _ _ _ (pre .0) (pre .1) _ _ (c .before .before .before .before .before .loop .inv), c .before .before .before .triangle-at .ensures .1)
+couple-corners-requires : tie.Need-couple-corners-requires Inv-loop μ-loop
+couple-corners-requires c κs =
+    let pre = c .before .before .before .before .before .before .pre in
+    let inv = c .before .before .before .loop .inv in
+    let l = coupling-long _ _ _ _ _ (pre .0) (pre .1) _ _ inv in
+    (coupling-couples _ _ _ _ _ (pre .0) (pre .1) _ _ inv, omega arith, c .before .triangle-at .ensures .1)
 
 add-i : tie.Need-add-i Inv-loop μ-loop
 add-i c = search needs
@@ -36,8 +33,9 @@ loop-less : tie.Need-loop-less Inv-loop μ-loop
 loop-less c = search needs
 
 loop-again : tie.Need-loop-again Inv-loop μ-loop
-loop-again c = let pre = c .before .before .before .before .before .before .before .before .before .before .before .pre in
-    coupling-again _ _ _ _ _ (pre .0) (pre .1) _ _ (c .before .before .before .before .before .before .before .before .loop .inv) (c .before .before .before .before .before .before .before .loop-test .taken) _ _ (c .before .before .before .before .before .before .triangle-at .ensures .0) (c .before .before .before .before .stiff-at .ensures) _ (c .before .before .couple-triangle .ensures)
+loop-again c =
+    let pre = c .before .before .before .before .before .before .before .before .before .pre in
+    coupling-again _ _ _ _ _ (pre .0) (pre .1) _ _ (c .before .before .before .before .before .before .loop .inv) (c .before .before .before .before .before .loop-test .taken) _ _ (c .before .before .before .before .triangle-at .ensures .0) refl _ (c .before .before .couple-corners .ensures)
 
 same-length : tie.Need-same-length Inv-loop μ-loop
 same-length c = let pre = c .before .before .before .before .pre in
@@ -55,8 +53,7 @@ couple-all-spec =
     μ-loop
     loop-holds
     triangle-at-requires
-    stiff-at-requires
-    couple-triangle-requires
+    couple-corners-requires
     add-i
     loop-less
     loop-again
