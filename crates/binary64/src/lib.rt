@@ -10,11 +10,9 @@ ghost use Rattle.binary64.specs.Number.{absOf, clampOf, atLeast, ceilCou
 pub fn abs(x: f64) -> f64
     ensures { λ r. ⌜ r ≡ absOf x ⌝ }
 {
-    if x < 0.0 {
-        return -x;
-    }
-    if x == 0.0 {
-        return 0.0; // for -0 too
+    // for both zeros too
+    if x <= 0.0 {
+        return 0.0 - x;
     }
     x
 }
