@@ -95,7 +95,12 @@ pub fn point_in_triangle(p: Point, a: Point, b: Point, c: Point) -> bool
 fn on_segment(at: Point, len2: f64, e: Point, a: Point) -> Hit
     ensures { λ r. ⌜ r ≡ Plane.onSegment at len2 e a ⌝ }
 {
-    let proj = dot(minus(at, a), e) / len2;
+    let d = dot(minus(at, a), e);
+    // strictly between the ends the quotient is from 0 to 1
+    if (0.0 < d) & (d < len2) {
+        return Hit::At(at);
+    }
+    let proj = d / len2;
     if -1e-12 <= proj {
         if proj <= 1.0 + 1e-12 {
             return Hit::At(at);
