@@ -1,9 +1,11 @@
-// The square root of an f64 (IEEE 754-2019, 5.4.1), on bit patterns: by a guess in floats that a
-// remainder makes certain, or digit by digit where it does not.
+// The square root of an f64 (IEEE 754-2019, 5.4.1): a guess in floats, returned where a remainder
+// shows that it is the root. Elsewhere the root is found on bit patterns, from the guess by a
+// remainder, or digit by digit.
 // `root` is the definition; the double that it gives is the nearest one (proofs/Nearest.antt).
 
 ghost use mathlib.Core.Path.{_≡_};
-ghost use Prim.Native.Nat.{_+_, _*_, _/_, _^_, _≤_, _<_};
+ghost use mathlib.Core.Bool.{true};
+ghost use Prim.Native.Nat.{_+_, _*_, _/_, _%_, _^_, _≤_, _<_};
 ghost use Rattle.binary64.specs.Number.{pick};
 ghost use Rattle.binary64.specs.Root.{root, rootOf, rootPattern, wholeRoot};
 
@@ -57,11 +59,11 @@ fn digits_rounded(operand: u64) -> u64
     (digit_root(operand) + 1) / 2
 }
 
-// A guess in floats at the pattern of x's root, two below it: with the digits that are wrong, one to
-// three below. Nothing is claimed of it: `nearest_root` tests it. w is x · y², z = y · w^(−1/2) nears
-// 1 / sqrt(x) by a polynomial of degree 5 in w, to 3 parts in 10^10, and r = x · z nears the root by
-// one step of Newton's.
-fn guess(x: f64, bits: u64) -> u64
+// A guess in floats at x's root: the root, or one above or below it in the last digit. Nothing is
+// claimed of it: `is_root` and `nearest_root` test it. w is x · y², z = y · w^(−1/2) nears 1 / sqrt(x)
+// by a polynomial of degree 5 in w, to 3 parts in 10^10, and r = x · z nears the root by one step of
+// Newton's.
+fn guess(x: f64, bits: u64) -> f64
     requires { ⌜ bits < 2047 * 2 ^ 52 ⌝ }
 {
     let y = f64::from_bits(MAGIC - bits / 2);
@@ -72,11 +74,7 @@ fn guess(x: f64, bits: u64) -> u64
     let high = y * (v * v) * (0.194386496374889 - 0.020168578408001552 * w);
     let z = low + middle + high;
     let r = x * z;
-    let s = r + 0.5 * r * (1.0 - r * z);
-    if s != s {
-        return 0;
-    }
-    std::num::wrapping_sub_u64(f64::to_bits(s), 2)
+    r + 0.5 * r * (1.0 - r * z)
 }
 
 // What the square of q leaves of `operand` followed by 52 zeros; `NONE` where it is above that or
@@ -135,13 +133,37 @@ fn nearest_root(operand: u64, q: u64) -> u64
     q + 1 + one_where(3 * q + 2 < rest) + one_where(5 * q + 6 < rest)
 }
 
+// The digits whose root is taken: m at an even exponent, twice m at an odd one.
+fn operand_of(g: u64, m: u64) -> u64
+    requires { ⌜ m < 2 ^ 53 ⌝ }
+    ensures { λ r. ⌜ (r ≡ m * 2 ^ (g % 2)) × (r < 2 ^ 54) ⌝ }
+{
+    if g % 2 == 0 { m } else { 2 * m }
+}
+
+// Whether `pattern` is that of the root of m · 2^(g − 2098); nothing is claimed of a no. Its digits
+// are q + 1, which is nearest to the root where what q² leaves is above q and at most 3q + 2.
+fn is_root(g: u64, m: u64, pattern: u64) -> bool
+    requires { ⌜ (2 ≤ g) × (g < 4096) × (m < 2 ^ 53) ⌝ }
+    ensures { λ r. ⌜ (r ≡ true → rootPattern g m ≡ pattern) ⌝ }
+{
+    let operand = operand_of(g, m);
+    let base = (g / 2 - 1) * LEADING;
+    let q = std::num::wrapping_sub_u64(pattern, base + 1);
+    if 2 * LEADING <= q {
+        return false;
+    }
+    let rest = remainder(operand, q);
+    (q < rest) & (rest <= 3 * q + 2)
+}
+
 // The pattern of the root of m · 2^(g − 2098), from a guess at it: half the exponent, and the whole
 // number nearest to the root of the digits.
 fn root_pattern(g: u64, m: u64, guessed: u64) -> u64
     requires { ⌜ (2 ≤ g) × (g < 4096) × (m < 2 ^ 53) ⌝ }
     ensures { λ r. ⌜ r ≡ rootPattern g m ⌝ }
 {
-    let operand = if g % 2 == 0 { m } else { 2 * m };
+    let operand = operand_of(g, m);
     let base = (g / 2 - 1) * LEADING;
     let q = std::num::wrapping_sub_u64(guessed, base);
     base + nearest_root(operand, q)
@@ -187,8 +209,17 @@ pub fn sqrt(x: f64) -> f64
         }
         // ordinary
         1..=2046 => {
-            let guessed = guess(x, bits);
-            f64::from_bits(root_of_ordinary(field, digits, guessed))
+            let s = guess(x, bits);
+            if s != s {
+                return f64::from_bits(root_of_ordinary(field, digits, 0));
+            }
+            let pattern = f64::to_bits(s);
+            if is_root(1023 + field, LEADING + digits, pattern) {
+                // as it is: a processor can go on with it before the test is done
+                return s;
+            }
+            // `nearest_root` wants a guess one to three below
+            f64::from_bits(root_of_ordinary(field, digits, std::num::wrapping_sub_u64(pattern, 2)))
         }
         // infinite
         _ => x,

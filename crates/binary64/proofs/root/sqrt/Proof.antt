@@ -1,11 +1,12 @@
--- `binary64::root::sqrt` meets its contract: x is what its pattern is read as, and each way out is `root` of the sort that the tests found. Assumes nothing.
+-- `binary64::root::sqrt` meets its contract: x is what its pattern is read as, and each way out is `root` of the sort that the tests found. A guess that is returned has the root's pattern. Assumes nothing.
 use mathlib.Core.Path.{_≡_, refl, sym, _∙_, subst}
 use native.Mathlib.Omega.{arith}
 use borrow.Author.Needs.{needs}
 use lib.Dec.{T}
 use lib.Ieee.{nan, binary64, fits, div, ofBits}
+use lib.Ieee.Bits.{ofBits-toBits}
 use Rattle.binary64.proofs.Patterns.{is-blank, not-blank}
-use Rattle.binary64.proofs.RootLaws.{of-nan, of-zero, of-fields, of-top, of-minus, root-no-nan}
+use Rattle.binary64.proofs.RootLaws.{of-nan, of-zero, of-fields, of-top, of-minus, root-no-nan, ordinary-is}
 use Rattle.binary64.proofs.root.sqrt.Statement.{statement}
 use Rattle.binary64.proofs.root.sqrt.Tie as tie
 
@@ -45,13 +46,45 @@ float-from-bits-result-2 : tie.Need-float-from-bits-result-2
 float-from-bits-result-2 c = root-no-nan _ _ _ (omega arith) (c .root-of-ordinary .ensures)
 
 returns-4 : tie.Need-returns-4
-returns-4 c = let s = c .before .before .before .before .before in of-fields (s .args .x) (held s) _ refl 0 _ (omega arith) (omega arith) (omega arith) (c .root-of-subnormal .ensures)
+returns-4 c = let s = c .before .before .before .before .before .before .before in of-fields (s .args .x) (held s) _ refl _ _ (omega arith) (omega arith) (omega arith) (c .root-of-ordinary .ensures)
+
+float-to-bits-pattern : tie.Need-float-to-bits-pattern
+float-to-bits-pattern c = not-blank _ (c .if5 .left)
+
+add-is-root : tie.Need-add-is-root
+add-is-root c = search needs
+
+add-is-root-2 : tie.Need-add-is-root-2
+add-is-root-2 c = search needs
+
+is-root-requires : tie.Need-is-root-requires
+is-root-requires c κs = search needs
 
 returns-5 : tie.Need-returns-5
-returns-5 c = let s = c .before .before .before .before .before .before in of-fields (s .args .x) (held s) _ refl _ _ (omega arith) (omega arith) (omega arith) (c .root-of-ordinary .ensures)
+returns-5 c =
+    let guessed = c .before .before .before .guess in
+    let s = c .before .before .before .before .before .before .before .before in
+    let kept : T (fits binary64 (guessed .result)) = subst T (sym (guessed .ok)) tt in
+    sym (ofBits-toBits binary64 (guessed .result) kept)
+    ∙ of-fields (s .args .x) (held s) _ refl _ _ (omega arith) (omega arith) (omega arith) (sym (c .before .is-root .ensures (c .if6 .taken)) ∙ ordinary-is _ _ (omega arith))
+
+wrapping-sub-u64-requires : tie.Need-wrapping-sub-u64-requires
+wrapping-sub-u64-requires c κs = search needs
+
+root-of-ordinary-requires-2 : tie.Need-root-of-ordinary-requires-2
+root-of-ordinary-requires-2 c κs = search needs
+
+float-from-bits-result-3 : tie.Need-float-from-bits-result-3
+float-from-bits-result-3 c = root-no-nan _ _ _ (omega arith) (c .root-of-ordinary2 .ensures)
 
 returns-6 : tie.Need-returns-6
-returns-6 c = let s = c .before .before .before .before in of-top (s .args .x) (held s) _ refl (omega arith)
+returns-6 c = let s = c .before .before .before .before .before in of-fields (s .args .x) (held s) _ refl 0 _ (omega arith) (omega arith) (omega arith) (c .root-of-subnormal .ensures)
+
+returns-7 : tie.Need-returns-7
+returns-7 c = let s = c .before .before .before .before .before .before .before .before .before .before in of-fields (s .args .x) (held s) _ refl _ _ (omega arith) (omega arith) (omega arith) (c .root-of-ordinary2 .ensures)
+
+returns-8 : tie.Need-returns-8
+returns-8 c = let s = c .before .before .before .before in of-top (s .args .x) (held s) _ refl (omega arith)
 
 pub sqrt-spec : {M : Type 1} → statement M
 sqrt-spec =
@@ -67,5 +100,14 @@ sqrt-spec =
     root-of-ordinary-requires
     float-from-bits-result-2
     returns-4
+    float-to-bits-pattern
+    add-is-root
+    add-is-root-2
+    is-root-requires
     returns-5
-    returns-6)
+    wrapping-sub-u64-requires
+    root-of-ordinary-requires-2
+    float-from-bits-result-3
+    returns-6
+    returns-7
+    returns-8)
