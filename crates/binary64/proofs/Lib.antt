@@ -2,6 +2,7 @@ pub mod LawsAbs
 pub mod LawsCeil
 pub mod Nearest
 pub mod Patterns
+pub mod Pieces
 pub mod RootGuess
 pub mod RootLaws
 pub mod RootOrder

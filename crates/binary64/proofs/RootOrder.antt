@@ -1,22 +1,21 @@
 -- What the square of a distance tells of its root: the root is at most any double whose square is not below the operand, and at least any whose square is not above it.
--- So the root of what is above 2^−68 is above 1e-12 and below infinity, and the root of what is below the rounded square of a spacing is at most the spacing, which makes one piece. Assumes nothing.
+-- So the root of what is above 2^−68 is above 1e-12 and below infinity, and the root of what lies beside the rounded square of a double lies beside the double. Assumes nothing.
 use mathlib.Core.Path.{_≡_, refl, sym, ap, _∙_, subst}
 use mathlib.Core.Bool.{Bool, true, false, true≢false, false≢true, _&&_, _||_}
-use Prim.Native.Nat.{ℕ, zero, suc, _+_, _-_, _*_, _/_, _%_, _^_, _≤_, _<_, min, zero-le}
-use native.Mathlib.Nat.{le-trans, le-of-eq, le-of-lt, lt-of-lt-of-le, lt-of-le-of-lt, not-le-of-lt, mul-one, add-le-add, mul-le-mul, mul-le-mul-left, mul-le-mul-right, mul-pos, mul-lt-mul-of-pos-right, lt-of-mul-lt-mul-right, div-eq-of-lt-le}
+use Prim.Native.Nat.{ℕ, zero, suc, _+_, _-_, _*_, _/_, _%_, _^_, _≤_, _<_, zero-le}
+use native.Mathlib.Nat.{le-trans, le-of-eq, le-of-lt, lt-of-lt-of-le, lt-of-le-of-lt, not-le-of-lt, mul-one, add-le-add, mul-le-mul, mul-le-mul-left, mul-le-mul-right, mul-pos, mul-lt-mul-of-pos-right, lt-of-mul-lt-mul-right}
 use native.Mathlib.Omega.{arith}
 use borrow.Author.Tests.{ltb-true, lt-ltb, ne-eqb}
-use lib.IntN.{pos, negsuc}
-use lib.Dec.{T, lit≤, lit<, ltb→lt}
+use lib.Dec.{T, lit≤, lit<}
 use lib.Pow.{pow-pos, pow-mono, shl-lt}
 use lib.Ieee.{Float, nan, inf, fin, binary64, up, down, odd, fits, ofFields, ofBits, toBits, lt, le, eq, div, mul, round}
 use lib.Ieee.Bits.{ofBits-toBits}
 use lib.Ieee.Exact.{HasValue, odd-sign, round-exact}
-use lib.Ieee.Fits.{up-pos, down-pos}
+use lib.Ieee.Fits.{down-pos}
 use lib.Ieee.Order.{le-of-values, round-mono}
-use lib.Ieee.Positive.{num, den, den-pos, own-value, positive, above, above-of-le, positive-of-value, value-pos, between, mul-at, le→cross, le-trans-positive}
+use lib.Ieee.Positive.{num, den, positive, above, above-of-le, positive-of-value, value-pos, between, mul-at, le→cross, le-trans-positive}
 use Rattle.binary64.specs.Constants.{small}
-use Rattle.binary64.specs.Number.{quotientUp, ceilCount}
+use Rattle.binary64.specs.NumberLaws.{both}
 use Rattle.binary64.specs.Root.{root, rootOf, weight, units, square, Between}
 use Rattle.binary64.proofs.Units.{units-is, units-next, units-mono}
 use Rattle.binary64.proofs.Patterns.{bits-plus, pattern-range}
@@ -66,7 +65,7 @@ module _ (a b c : ℕ) where
       let l : m * up e * down d * c < n * up d * down e * c = mul-lt-mul-of-pos-right (ltb-true _ _ h) C in
       lt-of-mul-lt-mul-right (down e * down d) (rw (z .0, z .1) at l)
 
-bits-lt : (a b : ℕ) → b < 2047 * 2 ^ 52 → a < b → lt (ofBits binary64 a) (ofBits binary64 b) ≡ true
+pub bits-lt : (a b : ℕ) → b < 2047 * 2 ^ 52 → a < b → lt (ofBits binary64 a) (ofBits binary64 b) ≡ true
 bits-lt a b l h =
     lt-of-values (units a) (units b) (2 ^ 1074) _ _ (bits-value a (omega arith)) (bits-value b l) (lt-of-lt-of-le (units-next a) (units-mono (a + 1) b (omega arith)))
 
@@ -76,7 +75,7 @@ lt-bits a b k l h =
     let n : ¬ (b ≤ a) = λ g. not-le-of-lt u (units-mono b a g) in
     omega arith
 
-lt→cross : (x y : Float) → T (positive x) → T (positive y) → lt x y ≡ true → num x * den y < num y * den x
+pub lt→cross : (x y : Float) → T (positive x) → T (positive y) → lt x y ≡ true → num x * den y < num y * den x
 unfolding lt
 lt→cross nan y p q h = absurd p
 lt→cross (inf s) y p q h = absurd p
@@ -88,11 +87,11 @@ lt→cross (fin false m e) (fin false n d) p q h = ltb-true _ _ h
 
 -- ---- a value above a positive one and below any
 
-lt→le : (x y : Float) → lt x y ≡ true → T (le x y)
+pub lt→le : (x y : Float) → lt x y ≡ true → T (le x y)
 unfolding le
 lt→le x y h = subst (λ (t : Bool). T (t || eq x y)) (sym h) tt
 
-lt-finite : (x y : Float) → T (above x) → lt x y ≡ true → T (positive x)
+pub lt-finite : (x y : Float) → T (above x) → lt x y ≡ true → T (positive x)
 unfolding lt
 lt-finite nan y p h = absurd p
 lt-finite (inf true) y p h = absurd p
@@ -138,42 +137,49 @@ module _ (x : Float) (h : T (fits binary64 x)) (p : T (positive x)) (w : ℕ) wh
   pub root-at-least : square (units w) ≤ 2 ^ 1074 * units (toBits binary64 x) → w ≤ toBits binary64 (root x)
   root-at-least = at-least (2 ^ 1074) (units (toBits binary64 x)) (toBits binary64 (root x)) w (root-beside x h p .below)
 
+root-range : (x : Float) → T (fits binary64 x) → T (positive x) → toBits binary64 (root x) < 2047 * 2 ^ 52
+root-range x h p =
+    let b = toBits binary64 x in
+    let n = pattern-range x h p in
+    let l = root-of-lt (b / 2 ^ 52) (b % 2 ^ 52) (omega arith) in
+    let t = ap (toBits binary64) (of-some x h b refl (n .0) (n .1)) ∙ same-bits (rootOf (b / 2 ^ 52) (b % 2 ^ 52)) l in
+    subst (λ (r : ℕ). r < 2047 * 2 ^ 52) (sym t) l
+
 -- ---- an operand above a pattern l from 2^−68 on
 
 -- 2^−68 and its root
-abbrev low : ℕ
+abbrev pub low : ℕ
 low = 955 * 2 ^ 52
 
-abbrev floor : ℕ
+abbrev pub floor : ℕ
 floor = 989 * 2 ^ 52
 
 floor-square : square (units floor) ≤ 2 ^ 1074 * units low
 unfolding units weight
 floor-square = lit≤ tt
 
-bits-positive : (b : ℕ) → 0 < b → b < 2047 * 2 ^ 52 → T (positive (ofBits binary64 b))
+pub bits-positive : (b : ℕ) → 0 < b → b < 2047 * 2 ^ 52 → T (positive (ofBits binary64 b))
 bits-positive b p l = positive-of-value (ofBits binary64 b) (units b) (2 ^ 1074) (bits-value b l) (lt-of-le-of-lt zero-le (lt-of-lt-of-le (units-next 0) (units-mono 1 b p)))
 
 -- the pattern of its root
-record Rooted (x : Float) (r : ℕ) : Type 0 where
-  above : T (positive x)
-  is : root x ≡ ofBits binary64 r
-  least : floor ≤ r
-  most : r < 2047 * 2 ^ 52
+pub record Rooted (x : Float) (r : ℕ) : Type 0 where
+  pub above : T (positive x)
+  pub is : root x ≡ ofBits binary64 r
+  pub least : floor ≤ r
+  pub most : r < 2047 * 2 ^ 52
 
-rooted : (x y : Float) (l : ℕ) → T (fits binary64 x) → low ≤ l → l < 2047 * 2 ^ 52 → lt (ofBits binary64 l) x ≡ true → lt x y ≡ true → Rooted x (toBits binary64 (root x))
+pub rooted : (x y : Float) (l : ℕ) → T (fits binary64 x) → low ≤ l → l < 2047 * 2 ^ 52 → lt (ofBits binary64 l) x ≡ true → lt x y ≡ true → Rooted x (toBits binary64 (root x))
 rooted x y l h i j g k =
     let p = lt-positive (ofBits binary64 l) x y (bits-positive l (omega arith) j) g k in
     let b = toBits binary64 x in
     let n = pattern-range x h p in
     let e : lt (ofBits binary64 l) (ofBits binary64 b) ≡ true = ap (lt (ofBits binary64 l)) (ofBits-toBits binary64 x h) ∙ g in
     let m : l < b = lt-bits l b j (n .1) e in
-    let t = ap (toBits binary64) (of-some x h b refl (n .0) (n .1)) ∙ same-bits (rootOf (b / 2 ^ 52) (b % 2 ^ 52)) (root-of-lt (b / 2 ^ 52) (b % 2 ^ 52) (omega arith)) in
     record {
       above = p;
       is = sym (ofBits-toBits binary64 (root x) (root-fits x h));
       least = root-at-least x h p floor (le-trans floor-square (mul-le-mul-left (2 ^ 1074) (units-mono low b (omega arith))));
-      most = subst (λ (r : ℕ). r < 2047 * 2 ^ 52) (sym t) (root-of-lt (b / 2 ^ 52) (b % 2 ^ 52) (omega arith));
+      most = root-range x h p;
     }
 
 -- ---- nearer than an infinite y
@@ -194,11 +200,6 @@ bits-under r l = go (ofBits binary64 r) (bits-value r l)
     go (inf s) v = absurd v
     go (fin s m e) v = refl
 
-both : (a b : Bool) → (a && b) ≡ true → (a ≡ true) × (b ≡ true)
-both true true h = (refl, refl)
-both true false h = absurd (false≢true h)
-both false b h = absurd (false≢true h)
-
 pub infinity : div binary64 (ofBits binary64 0x3ff0_0000_0000_0000) (ofBits binary64 0) ≡ inf false
 unfolding div ofBits
 infinity = refl
@@ -213,7 +214,7 @@ first-nearer x y v l h t i j f =
     let a : lt small (ofBits binary64 n) ≡ true = bits-lt 0x3d71_9799_812d_ea11 n (r .most) (lt-of-lt-of-le (lit< tt) (r .least)) in
     rw (r .is, e, a, bits-under n (r .most))
 
--- ---- a square below the rounded square of a spacing
+-- ---- an operand beside the rounded square of a double
 
 -- a double is what its own value is rounded to
 fields-exact : (f t : ℕ) → f < 2047 → t < 2 ^ 52 → HasValue (round binary64 false (weight f t) (2 ^ 1074)) false (weight f t) (2 ^ 1074)
@@ -230,7 +231,7 @@ value : (x : Float) → T (fits binary64 x) → T (positive x) → HasValue x fa
 value x h p =
     subst (λ (v : Float). HasValue v false (units (toBits binary64 x)) (2 ^ 1074)) (ofBits-toBits binary64 x h) (bits-value (toBits binary64 x) (pattern-range x h p .1))
 
--- x is not above the square itself
+-- what is below the rounded square is not above the square itself, and what is above the one is not below the other
 module _ (x s : Float) (a b c : ℕ) (above : 0 < c) (p : T (positive x)) (q : T (positive s)) (u : HasValue x false a c) (v : HasValue s false b c) (own : HasValue (round binary64 false a c) false a c) where
   square-reaches : lt x (mul binary64 s s) ≡ true → c * a ≤ b * b
   square-reaches h =
@@ -245,98 +246,39 @@ module _ (x s : Float) (a b c : ℕ) (above : 0 < c) (p : T (positive x)) (q : T
       not-le-of-lt (lt→cross x y p w h) (le→cross y x w p (le-trans-positive y z x w o p k d)) in
       omega arith
 
--- ---- a root that is no longer than the spacing is one piece
+  square-reached : lt (mul binary64 s s) x ≡ true → b * b ≤ c * a
+  square-reached h =
+      let y = mul binary64 s s in
+      let z = round binary64 false a c in
+      let n : ¬ (c * a < b * b) = λ g.
+      let i : a * (c * c) ≤ b * b * c = le-trans (le-of-eq (omega arith)) (mul-le-mul-right c (le-of-lt g)) in
+      let k : T (le z y) = subst (λ (w : Float). T (le z w)) (sym (mul-at binary64 s s b c b c q q above above v v)) (round-mono binary64 a c (b * b) (c * c) above (mul-pos above above) i) in
+      let o : T (positive z) = positive-of-value z a c own (value-pos x a c p above u) in
+      let w : T (positive y) = lt-finite y x (above-of-le z y o k) h in
+      let d : T (le x z) = le-of-values x z a c a c above above u own (le-of-eq refl) in
+      not-le-of-lt (lt→cross y x w p h) (le→cross x y p w (le-trans-positive x z y p o w d k)) in
+      omega arith
 
-div-is : (x y : Float) → T (positive x) → T (positive y) → div binary64 x y ≡ round binary64 false (num x * den y) (num y * den x)
-unfolding div
-div-is nan y p q = absurd p
-div-is (inf s) y p q = absurd p
-div-is (fin true m e) y p q = absurd p
-div-is (fin false m e) nan p q = absurd q
-div-is (fin false m e) (inf t) p q = absurd q
-div-is (fin false m e) (fin true n d) p q = absurd q
-div-is (fin false m e) (fin false n d) p q = let l = ltb→lt 0 n q in rw (ne-eqb n 0 (omega arith))
-
-one-up : (a d : ℕ) → 0 < a → a ≤ d → 1 ≡ min (quotientUp a d) (2 ^ 64 - 1)
-one-up a d p h =
-    let q : quotientUp a d ≡ 1 = div-eq-of-lt-le d (omega arith) (omega arith) in
-    omega arith
-
-one-count : (q : Float) → T (positive q) → T (le q (fin false 1 (pos 0))) → 1 ≡ ceilCount q
-unfolding ceilCount
-one-count nan p h = absurd p
-one-count (inf s) p h = absurd p
-one-count (fin true m e) p h = absurd p
-one-count (fin false m e) p h =
-    let l = le→cross (fin false m e) (fin false 1 (pos 0)) p tt h in
-    one-up (m * up e) (down e) (mul-pos (ltb→lt 0 m p) (up-pos e)) (omega arith)
-
-one-rounds : round binary64 false 1 1 ≡ fin false 1 (pos 0)
-unfolding round
-one-rounds = refl
-
-least-rounds : T (positive (round binary64 false 1 (2 ^ 54)))
-unfolding round
-least-rounds = tt
-
--- the quotient of a d from 2^−34 on and an s of at most 2^20 is at least 2^−54
-module _ (d s : Float) (p : T (positive d)) (q : T (positive s)) (long : den d ≤ num d * 2 ^ 34) (less : num s ≤ 2 ^ 20 * den s) (h : T (le d s)) where
-  one-piece : 1 ≡ ceilCount (div binary64 d s)
-  one-piece =
-      let a = num d * den s in
-      let c = num s * den d in
-      let k : a ≤ c = le→cross d s p q h in
-      let A : 0 < a = mul-pos (value-pos d (num d) (den d) p (den-pos d) (own-value d p)) (den-pos s) in
-      let C : 0 < c = omega arith in
-      let f : num s * den d ≤ 2 ^ 20 * den s * (num d * 2 ^ 34) = mul-le-mul less long in
-      let u : T (le (round binary64 false a c) (fin false 1 (pos 0))) = subst (λ (z : Float). T (le (round binary64 false a c) z)) one-rounds (round-mono binary64 a c 1 1 C (lit< tt) (omega arith)) in
-      let l : T (le (round binary64 false 1 (2 ^ 54)) (round binary64 false a c)) = round-mono binary64 1 (2 ^ 54) a c (pow-pos 54) C (omega arith) in
-      rw (div-is d s p q) (one-count (round binary64 false a c) (between _ _ (fin false 1 (pos 0)) least-rounds tt l u) u)
-
--- 2^20
-abbrev longest : ℕ
-longest = 1043 * 2 ^ 52
-
-under-longest : (s : Float) → T (positive s) → T (le s (ofBits binary64 longest)) → num s ≤ 2 ^ 20 * den s
-unfolding ofBits
-under-longest s p h = let l = le→cross s (fin false 1 (pos 20)) p tt h in omega arith
-
-over-floor : (d : Float) → T (positive d) → T (le (ofBits binary64 floor) d) → den d ≤ num d * 2 ^ 34
-unfolding ofBits
-over-floor d p h = let l = le→cross (fin false 1 (negsuc 33)) d tt p h in omega arith
-
-le-bits : (a b : ℕ) → b < 2047 * 2 ^ 52 → a ≤ b → T (le (ofBits binary64 a) (ofBits binary64 b))
+pub le-bits : (a b : ℕ) → b < 2047 * 2 ^ 52 → a ≤ b → T (le (ofBits binary64 a) (ofBits binary64 b))
 le-bits a b l h =
     le-of-values _ _ (units a) (2 ^ 1074) (units b) (2 ^ 1074) (pow-pos 1074) (pow-pos 1074) (bits-value a (omega arith)) (bits-value b l) (mul-le-mul-right (2 ^ 1074) (units-mono a b h))
 
--- What the bounds must be: l of the operand, from 2^−68 on, and i and j of the spacing, above 0 and up to 2^20.
-pub record Bounds (l i j : ℕ) : Type 0 where
-  pub low-least : low ≤ l
-  pub low-most : l < 2047 * 2 ^ 52
-  pub some : 0 < i
-  pub i-most : i < 2047 * 2 ^ 52
-  pub j-most : j ≤ longest
+le-of-bits : (x y : Float) → T (fits binary64 x) → T (fits binary64 y) → toBits binary64 y < 2047 * 2 ^ 52 → toBits binary64 x ≤ toBits binary64 y → T (le x y)
+le-of-bits x y h k l m =
+    subst (λ (z : Float). T (le z y)) (ofBits-toBits binary64 x h)
+    (subst (λ (z : Float). T (le (ofBits binary64 (toBits binary64 x)) z)) (ofBits-toBits binary64 y k) (le-bits (toBits binary64 x) (toBits binary64 y) l m))
 
-pub short-one : (x s y : Float) (l i j : ℕ) → T (fits binary64 x) → T (fits binary64 s) → (lt (ofBits binary64 l) x && lt x y && lt (ofBits binary64 i) s && lt s (ofBits binary64 j)) ≡ true
-    → y ≡ mul binary64 s s → Bounds l i j → 1 ≡ ceilCount (div binary64 (root x) s)
-short-one x s y l i j h k t is n =
-    let t3 = both _ _ t in
-    let t2 = both _ _ (t3 .0) in
-    let t1 = both _ _ (t2 .0) in
-    let r = rooted x y l h (n .low-least) (n .low-most) (t1 .0) (t1 .1) in
-    let p = r .above in
-    let q = lt-positive (ofBits binary64 i) s (ofBits binary64 j) (bits-positive i (n .some) (n .i-most)) (t2 .1) (t3 .1) in
-    let b = toBits binary64 s in
-    let w = pattern-range s k q .1 in
-    let same : ofBits binary64 b ≡ s = ofBits-toBits binary64 s k in
-    let u : lt x (mul binary64 s s) ≡ true = subst (λ (z : Float). lt x z ≡ true) is (t1 .1) in
-    let m : toBits binary64 (root x) ≤ b =
-    root-at-most x h p b
-    (square-reaches x s (units (toBits binary64 x)) (units b) (2 ^ 1074) (pow-pos 1074) p q (value x h p) (value s k q) (bits-exact (toBits binary64 x) (pattern-range x h p .1)) u) in
-    let v : b < j = lt-bits b j w (omega arith) (subst (λ (z : Float). lt z (ofBits binary64 j) ≡ true) (sym same) (t3 .1)) in
-    let o : T (le s (ofBits binary64 longest)) = subst (λ (z : Float). T (le z (ofBits binary64 longest))) same (le-bits b longest (lit< tt) (omega arith)) in
-    let e : T (le (ofBits binary64 floor) (root x)) = subst (λ (z : Float). T (le (ofBits binary64 floor) z)) (sym (r .is)) (le-bits floor (toBits binary64 (root x)) (r .most) (r .least)) in
-    let g : T (le (root x) (ofBits binary64 b)) = subst (λ (z : Float). T (le z (ofBits binary64 b))) (sym (r .is)) (le-bits (toBits binary64 (root x)) b w m) in
-    let f : T (le (root x) s) = subst (λ (z : Float). T (le (root x) z)) same g in
-    let d = between (ofBits binary64 floor) (root x) s (bits-positive floor (lit< tt) (lit< tt)) q e f in
-    one-piece (root x) s d q (over-floor (root x) d e) (under-longest s q o) f
+module _ (x w : Float) (h : T (fits binary64 x)) (k : T (fits binary64 w)) (p : T (positive x)) (q : T (positive w)) where
+  pub root-under : lt x (mul binary64 w w) ≡ true → T (le (root x) w)
+  root-under t =
+      let a = toBits binary64 x in
+      let b = toBits binary64 w in
+      le-of-bits (root x) w (root-fits x h) k (pattern-range w k q .1)
+      (root-at-most x h p b (square-reaches x w (units a) (units b) (2 ^ 1074) (pow-pos 1074) p q (value x h p) (value w k q) (bits-exact a (pattern-range x h p .1)) t))
+
+  pub root-over : lt (mul binary64 w w) x ≡ true → T (le w (root x))
+  root-over t =
+      let a = toBits binary64 x in
+      let b = toBits binary64 w in
+      le-of-bits w (root x) k (root-fits x h) (root-range x h p)
+      (root-at-least x h p b (square-reached x w (units a) (units b) (2 ^ 1074) (pow-pos 1074) p q (value x h p) (value w k q) (bits-exact a (pattern-range x h p .1)) t))

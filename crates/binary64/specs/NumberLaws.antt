@@ -1,12 +1,17 @@
--- Laws of the stand-ins: each gives a binary64 number where it is given such numbers, and a count fits 64 bits. Assumes nothing.
+-- Laws of the stand-ins: each gives a binary64 number where it is given such numbers, and a count fits 64 bits. And of tests: where two pass together, each passes. Assumes nothing.
 use Prim.Native.Nat.{zero, suc, _-_, _^_, _≤_, _<_}
 use native.Mathlib.Omega.{arith}
-use mathlib.Core.Bool.{Bool, true, false}
+use mathlib.Core.Path.{_≡_, refl}
+use mathlib.Core.Bool.{Bool, true, false, false≢true, _&&_}
 use lib.Dec.{T}
 use lib.Ieee.{Float, nan, inf, fin, Format, binary64, fits, lt}
 use lib.Ieee.Bits.{ofBits-fits}
 use Rattle.binary64.specs.Constants.{plusZero, one}
 use Rattle.binary64.specs.Number.{pick, absOf, clampOf, atLeast, ceilCount}
+
+pub both : (a b : Bool) → (a && b) ≡ true → (a ≡ true) × (b ≡ true)
+both true b h = (refl, h)
+both false b h = absurd (false≢true h)
 
 pub pick-fits : (f : Format) (t : Bool) (x y : Float) → T (fits f x) → T (fits f y) → T (fits f (pick t x y))
 pick-fits f true x y a b = a

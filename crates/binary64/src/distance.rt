@@ -3,7 +3,7 @@
 ghost use mathlib.Core.Path.{_≡_};
 ghost use mathlib.Core.Bool.{_&&_};
 ghost use lib.Ieee.{lt};
-ghost use Rattle.binary64.specs.Arith.{_⊘_};
+ghost use Rattle.binary64.specs.Arith.{_⊗_, _⊘_};
 ghost use Rattle.binary64.specs.Constants.{small};
 ghost use Rattle.binary64.specs.Number.{ceilCount};
 ghost use Rattle.binary64.specs.Root.{root};
@@ -23,13 +23,29 @@ pub fn is_nearer(x: f64, y: f64) -> bool
     false
 }
 
+// Whether x lies strictly between the squares of low and high, each rounded.
+fn lies(x: f64, low: f64, high: f64) -> bool
+    ensures { λ r. ⌜ r ≡ (lt (low ⊗ low) x && lt x (high ⊗ high)) ⌝ }
+{
+    (low * low < x) & (x < high * high)
+}
+
 // In how many pieces the root of x is laid, each no longer than the spacing.
 pub fn pieces(x: f64, spacing: f64) -> usize
     ensures { λ r. ⌜ r ≡ ceilCount (root x ⊘ spacing) ⌝ }
 {
-    // the root is at most the spacing, and above 0
-    if (1e-20 < x) & (x < spacing * spacing) & (1e-6 < spacing) & (spacing < 1e6) {
-        return 1;
+    if (1e-6 < spacing) & (spacing < 1e6) {
+        // the root is at most the spacing, and above 0
+        if (1e-20 < x) & (x < spacing * spacing) {
+            return 1;
+        }
+        // a product is rounded: a millionth is room for that
+        if lies(x, spacing * 1.000001, spacing * 1.999999) {
+            return 2;
+        }
+        if lies(x, spacing * 2.000001, spacing * 2.999999) {
+            return 3;
+        }
     }
     crate::ceil_count(crate::root::sqrt(x) / spacing)
 }

@@ -13,10 +13,10 @@ use borrow.Author.Tests.{le-leb, lt-leb, ne-eqb}
 use Rattle.binary64.specs.Arith.{_⊖_, _⊗_}
 use Rattle.binary64.specs.Constants.{plusZero}
 use Rattle.binary64.specs.Number.{pick}
+use Rattle.binary64.specs.NumberLaws.{both}
 use Rattle.stretch.specs.Stretch.{part, splice, Wrote}
 use Rattle.stretch.specs.StretchLaws.{length-part, getD-part, part-zero, part-suc, splice-part, splice-splice-same, got, kept-before, as-long, getD-splice-after}
 use Rattle.stretch.specs.LoopLaws.{write-none, write-step}
-use Rattle.sparse.specs.ScanLaws.{both}
 use Rattle.laplace.specs.declared.Places.{Places}
 use Rattle.laplace.specs.declared.element.Side.{Side}
 use Rattle.laplace.specs.declared.element.Stiff.{Stiff}

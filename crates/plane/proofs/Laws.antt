@@ -1,7 +1,7 @@
 -- Of the projection's range: its upper end as the code adds it up, and that a quotient d / l with 0 < d < l lies in it, as in any range from below 0 to 1 or more: it is from 0 to 1.
 -- Such a d is finite, and such an l is not 0; if l is infinite, the quotient is 0. Assumes nothing.
 use mathlib.Core.Path.{_≡_, refl, ap, _∙_, subst}
-use mathlib.Core.Bool.{Bool, true, false, false≢true, _&&_, _||_}
+use mathlib.Core.Bool.{true, false, false≢true, _&&_, _||_}
 use Prim.Native.Nat.{ℕ, _+_, _*_, _≤_, _<_}
 use native.Mathlib.Nat.{zero-mul, mul-pos, mul-le-mul, le-of-eq, le-of-lt, lt-of-le-of-lt}
 use native.Mathlib.Omega.{arith}
@@ -15,17 +15,13 @@ use lib.Ieee.Order.{round-mono}
 use lib.Ieee.Positive.{num, den, den-pos, positive, first-pos}
 use Rattle.binary64.specs.Arith.{_⊕_, _⊘_}
 use Rattle.binary64.specs.Constants.{plusZero, one, small, oneAndSmall}
+use Rattle.binary64.specs.NumberLaws.{both}
 
 pub one-and-small : one ⊕ small ≡ oneAndSmall
 unfolding add ofBits
 one-and-small = refl
 
 -- ---- a quotient from 0 to 1
-
-both : (a b : Bool) → (a && b) ≡ true → (a ≡ true) × (b ≡ true)
-both true true h = (refl, refl)
-both true false h = absurd (false≢true h)
-both false b h = absurd (false≢true h)
 
 some : (m : ℕ) (e d : ℤ) → T (positive (fin false m e)) → 0 < m * up e * down d
 some m e d p = mul-pos (mul-pos (ltb→lt 0 m p) (up-pos e)) (down-pos d)

@@ -1,6 +1,6 @@
 -- What a scan that passes establishes of the stored matrix, and that it passes where that holds. Assumes nothing.
 use mathlib.Core.Path.{_≡_, refl, sym, ap, _∙_}
-use mathlib.Core.Bool.{Bool, true, false, _&&_, false≢true}
+use mathlib.Core.Bool.{true}
 use mathlib.Core.List.{List, [], _∷_}
 use Prim.Native.Nat.{ℕ, zero, suc, _+_, _≤_, _<_}
 use native.Mathlib.Numerals.{add-one}
@@ -8,15 +8,12 @@ use native.Mathlib.Omega.{arith}
 use lib.ListN.{length, getD}
 use lib.Dec.{leb, ltb}
 use borrow.Author.Tests.{ltb-true, leb-true, lt-ltb, le-leb}
+use Rattle.binary64.specs.NumberLaws.{both}
 use Rattle.stretch.specs.Stretch.{part}
 use Rattle.stretch.specs.StretchLaws.{part-cons, getD-part, length-part}
 use Rattle.sparse.specs.declared.Csr.{Csr}
 use Rattle.sparse.specs.Stored.{start, end, Rising, Below, Sound}
 use Rattle.sparse.specs.Scan.{allBelow, risesFrom, rises}
-
-pub both : (a b : Bool) → (a && b) ≡ true → (a ≡ true) × (b ≡ true)
-both true b e = (refl, e)
-both false b e = absurd (false≢true e)
 
 -- ---- columns below a bound
 
