@@ -16,21 +16,21 @@ use crate::writer::bytes;
 use std::hint::black_box;
 use std::time::Instant;
 
-/// How often each side is timed; the least time counts.
+/// How often each side is timed in a sweep; the least time counts.
 const ROUNDS: usize = 25;
+
+/// How often all that is timed of a ring is gone through, so that what disturbs the machine for a second does not stay in a figure.
+const SWEEPS: usize = 8;
 
 /// How many passes are timed together.
 const PASSES: u32 = 200;
 
 pub fn all(seed: u64) {
     println!("microseconds on rings, library and Rust");
-    let mut rings = Vec::new();
-    for (around, layers) in [(25, 19), (50, 39), (64, 62)] {
-        let mut rng = Rng::new(seed, "timing", around as u64);
-        let mut content = ring_of(&mut rng, around, layers, 0.3);
-        content.settings = Settings { step: Some(0.05), room: Some(10_000), ..Settings::default() };
-        rings.push((content.n(), ring(&content)));
-    }
+    let rings = [(25, 19), (50, 39), (64, 62)].map(|(around, layers)| {
+        let ring = Ring::new(seed, around, layers);
+        (ring.content.n(), ring.show(&ring.least_times()))
+    });
     growth(&rings);
 }
 
@@ -97,70 +97,103 @@ fn open(sheet: &[u8], buffers: &mut Buffers) -> Record {
     rattle::open(sheet, buffers, [usize::MAX; 3]).expect("the sheet of a ring opens")
 }
 
-fn ring(content: &Content) -> Vec<Timed> {
-    let mut all = Vec::new();
-    let mesh = originals::mesh(content);
-    let sheet = bytes(content);
-    let settings = content.settings;
-    let run = Run::new(content);
-    let solved = run.solved();
-    let x = solved.x.clone();
-    let start = solved.place as u32 + 1;
-    let last = run.from(solved);
-    println!(
-        "  n {}, T {}, {} passes of solving, {} crossings, {} points",
-        content.n(),
-        content.t(),
-        start - 1,
-        last.crossings,
-        last.points.len()
-    );
+/// A ring, and what the times need of its run.
+struct Ring {
+    content: Content,
+    sheet: Vec<u8>,
+    mesh: originals::types::TriangleMesh,
+    x: Vec<f64>,
+    start: u32,
+    crossings: usize,
+    points: usize,
+}
 
-    let solve =
-        |limit: usize, tolerance: f64| least(|| (), |_| drop(black_box(solve_laplace_with_history(&mesh, Some(limit), Some(tolerance)))));
-    let reading = least(|| (), |_| drop(black_box(read(&sheet).map(|c| originals::mesh(&c)))));
-    let assembly = solve(0, -1.0);
-    let opening = least(|| lent(content), |b| drop(black_box(open(&sheet, b))));
-    show(&mut all, "opening, against reading and assembly", opening, reading + assembly);
-    show(&mut all, "opening, reading included, against assembly alone", opening, assembly);
-
-    let mut lasting = content.clone();
-    lasting.settings.tolerance = Some(-1.0);
-    let lasting_sheet = bytes(&lasting);
-    let passes = least(|| Opened::new(&lasting, &lasting_sheet), |o| o.call(Call::Advance(PASSES)));
-    let each = PASSES as f64;
-    show(&mut all, "a pass of solving", passes / each, (solve(PASSES as usize, -1.0) - assembly) / each);
-
-    let tracing = least(|| (), |_| drop(black_box(trace_spiral(&mesh, &x, settings.step.unwrap(), settings.start()))));
-    let gradients = least(|| (), |_| drop(black_box(compute_gradient_field(&mesh, &x))));
-    let crossings = least(|| Opened::after(content, &sheet, &[Call::Advance(start)]), |o| o.call(Call::Advance(u32::MAX)));
-    let each = last.crossings as f64;
-    show(&mut all, "a crossing", crossings / each, (tracing - gradients) / each);
-
-    let whole_rust = reading + solve(settings.limit(), settings.tolerance()) + tracing;
-    let whole = least(
-        || lent(content),
-        |b| {
-            let mut record = open(&sheet, b);
-            assert!(rattle::call(&mut record, Call::Advance(u32::MAX), b, [usize::MAX; 3]) == 0);
-        },
-    );
-    show(&mut all, "a whole run", whole, whole_rust);
-
-    println!("    against the Rust's crossings, and then against a whole run of it, which has no other way back:");
-    let to_the_end = Call::Advance(u32::MAX);
-    let ways = [
-        ("back 1 from the last place", vec![to_the_end], Call::Back(1)),
-        ("return to a mark half way through solving", vec![Call::Advance(start / 2), Call::Mark, to_the_end], Call::Return),
-        ("return to a mark at the start pass", vec![Call::Advance(start), Call::Mark, to_the_end], Call::Return),
-    ];
-    for (k, (what, calls, call)) in ways.into_iter().enumerate() {
-        let time = least(|| Opened::after(content, &sheet, &calls), |o| o.call(call));
-        if k == 0 {
-            println!("    back 1 from the last place, against the library's own crossings: {time:.3}, {crossings:.3}, ratio {:.2}", time / crossings);
-            show(&mut all, "back 1 from the last place, against the crossings", time, tracing - gradients);
-        }
-        show(&mut all, what, time, whole_rust);
+impl Ring {
+    fn new(seed: u64, around: usize, layers: usize) -> Ring {
+        let mut rng = Rng::new(seed, "timing", around as u64);
+        let mut content = ring_of(&mut rng, around, layers, 0.3);
+        content.settings = Settings { step: Some(0.05), room: Some(10_000), ..Settings::default() };
+        let run = Run::new(&content);
+        let solved = run.solved();
+        let (x, start) = (solved.x.clone(), solved.place as u32 + 1);
+        let last = run.from(solved);
+        let (sheet, mesh) = (bytes(&content), originals::mesh(&content));
+        Ring { sheet, mesh, x, start, crossings: last.crossings, points: last.points.len(), content }
     }
-    all
+
+    /// The calls before each timed way back, and that way.
+    fn ways(&self) -> [(Vec<Call>, Call); 3] {
+        let to_the_end = Call::Advance(u32::MAX);
+        [
+            (vec![to_the_end], Call::Back(1)),
+            (vec![Call::Advance(self.start / 2), Call::Mark, to_the_end], Call::Return),
+            (vec![Call::Advance(self.start), Call::Mark, to_the_end], Call::Return),
+        ]
+    }
+
+    /// The Rust's reading, assembly, solving, 200 passes with assembly, gradients and tracing.
+    fn rust(&self) -> Vec<f64> {
+        let (mesh, settings) = (&self.mesh, self.content.settings);
+        let solve =
+            |limit: usize, tolerance: f64| least(|| (), |_| drop(black_box(solve_laplace_with_history(mesh, Some(limit), Some(tolerance)))));
+        vec![
+            least(|| (), |_| drop(black_box(read(&self.sheet).map(|c| originals::mesh(&c))))),
+            solve(0, -1.0),
+            solve(settings.limit(), settings.tolerance()),
+            solve(PASSES as usize, -1.0),
+            least(|| (), |_| drop(black_box(compute_gradient_field(mesh, &self.x)))),
+            least(|| (), |_| drop(black_box(trace_spiral(mesh, &self.x, settings.step.unwrap(), settings.start())))),
+        ]
+    }
+
+    /// The library's opening, 200 passes, crossings and whole run, then each way back.
+    fn library(&self) -> Vec<f64> {
+        let (content, sheet) = (&self.content, &self.sheet);
+        let mut lasting = content.clone();
+        lasting.settings.tolerance = Some(-1.0);
+        let lasting_sheet = bytes(&lasting);
+        let whole = |b: &mut Buffers| {
+            let mut record = open(sheet, b);
+            assert!(rattle::call(&mut record, Call::Advance(u32::MAX), b, [usize::MAX; 3]) == 0);
+        };
+        let mut times = vec![
+            least(|| lent(content), |b| drop(black_box(open(sheet, b)))),
+            least(|| Opened::new(&lasting, &lasting_sheet), |o| o.call(Call::Advance(PASSES))),
+            least(|| Opened::after(content, sheet, &[Call::Advance(self.start)]), |o| o.call(Call::Advance(u32::MAX))),
+            least(|| lent(content), whole),
+        ];
+        times.extend(self.ways().map(|(calls, call)| least(|| Opened::after(content, sheet, &calls), |o| o.call(call))));
+        times
+    }
+
+    /// All of these, the least of the sweeps.
+    fn least_times(&self) -> Vec<f64> {
+        let sweep = |_| [self.rust(), self.library()].concat();
+        let lesser = |a: Vec<f64>, b: Vec<f64>| a.iter().zip(&b).map(|(a, b)| a.min(*b)).collect();
+        (0..SWEEPS).map(sweep).reduce(lesser).unwrap()
+    }
+
+    fn show(&self, times: &[f64]) -> Vec<Timed> {
+        let &[reading, assembly, solving, passes, gradients, tracing, opening, own_passes, own_crossings, own_whole, back, half, start] = times else {
+            panic!("thirteen times")
+        };
+        let (n, t, solves) = (self.content.n(), self.content.t(), self.start - 1);
+        println!("  n {n}, T {t}, {solves} passes of solving, {} crossings, {} points", self.crossings, self.points);
+        let mut all = Vec::new();
+        show(&mut all, "opening, against reading and assembly", opening, reading + assembly);
+        show(&mut all, "opening, reading included, against assembly alone", opening, assembly);
+        let each = PASSES as f64;
+        show(&mut all, "a pass of solving", own_passes / each, (passes - assembly) / each);
+        let each = self.crossings as f64;
+        show(&mut all, "a crossing", own_crossings / each, (tracing - gradients) / each);
+        let whole = reading + solving + tracing;
+        show(&mut all, "a whole run", own_whole, whole);
+        println!("    back 1 from the last place, against the library's own crossings: {back:.3}, {own_crossings:.3}, ratio {:.2}", back / own_crossings);
+        println!("    against the Rust's crossings, and then against a whole run of it, which has no other way back:");
+        show(&mut all, "back 1 from the last place, against the crossings", back, tracing - gradients);
+        show(&mut all, "back 1 from the last place", back, whole);
+        show(&mut all, "return to a mark half way through solving", half, whole);
+        show(&mut all, "return to a mark at the start pass", start, whole);
+        all
+    }
 }
