@@ -134,8 +134,9 @@ impl Ring {
     /// The Rust's reading, assembly, solving, 200 passes with assembly, gradients and tracing.
     fn rust(&self) -> Vec<f64> {
         let (mesh, settings) = (&self.mesh, self.content.settings);
-        let solve =
-            |limit: usize, tolerance: f64| least(|| (), |_| drop(black_box(solve_laplace_with_history(mesh, Some(limit), Some(tolerance)))));
+        let solve = |limit: usize, tolerance: f64| {
+            least(|| (), |_| drop(black_box(solve_laplace_with_history(mesh, Some(limit), Some(tolerance)))))
+        };
         vec![
             least(|| (), |_| drop(black_box(read(&self.sheet).map(|c| originals::mesh(&c))))),
             solve(0, -1.0),
@@ -174,7 +175,9 @@ impl Ring {
     }
 
     fn show(&self, times: &[f64]) -> Vec<Timed> {
-        let &[reading, assembly, solving, passes, gradients, tracing, opening, own_passes, own_crossings, own_whole, back, half, start] = times else {
+        let &[reading, assembly, solving, passes, gradients, tracing, opening, own_passes, own_crossings, own_whole, back, half, start] =
+            times
+        else {
             panic!("thirteen times")
         };
         let (n, t, solves) = (self.content.n(), self.content.t(), self.start - 1);
@@ -188,7 +191,10 @@ impl Ring {
         show(&mut all, "a crossing", own_crossings / each, (tracing - gradients) / each);
         let whole = reading + solving + tracing;
         show(&mut all, "a whole run", own_whole, whole);
-        println!("    back 1 from the last place, against the library's own crossings: {back:.3}, {own_crossings:.3}, ratio {:.2}", back / own_crossings);
+        println!(
+            "    back 1 from the last place, against the library's own crossings: {back:.3}, {own_crossings:.3}, ratio {:.2}",
+            back / own_crossings
+        );
         println!("    against the Rust's crossings, and then against a whole run of it, which has no other way back:");
         show(&mut all, "back 1 from the last place, against the crossings", back, tracing - gradients);
         show(&mut all, "back 1 from the last place", back, whole);
