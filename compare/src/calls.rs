@@ -272,7 +272,6 @@ fn spoil_record(rng: &mut Rng, content: &Content, record: &mut Record) -> bool {
     let crossings = (FACTOR * content.t()) as u64;
     let limit = content.settings.limit() as u64;
     let marked = record.wholes[rattle::MARKED] == 1;
-    let walks = record.wholes[rattle::POINTS] > 0 && record.wholes[rattle::PATH_END] == 0;
     let (what, most) = match rng.below(10) {
         0 => (rattle::PLACE, limit + 1 + crossings),
         1 => (rattle::NORMS, limit + 1),
@@ -281,7 +280,7 @@ fn spoil_record(rng: &mut Rng, content: &Content, record: &mut Record) -> bool {
         4 => (rattle::EDGE, 3),
         5 => (rattle::POINTS, content.settings.room.unwrap()),
         6 => (rattle::CROSSINGS, crossings),
-        7 if walks => (rattle::TRIANGLE, content.t() as u64 - 1),
+        7 => (rattle::TRIANGLE, (content.t() as u64).max(1) - 1),
         8 if marked => (rattle::MARK_PLACE, limit + 1 + crossings),
         9 if marked => (rattle::MARK_NORMS, limit + 1),
         _ => return false,

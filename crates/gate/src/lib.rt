@@ -67,7 +67,8 @@ fn stand_sound(p: Plan, s: Stand) -> bool
     let left = (w.end != 0) | (s.crossings < most);
     let walking = (w.points == 0) | ((w.triangle < p.t) & left);
     let path = (w.points <= p.room) & ((s.crossings <= most) & walking);
-    let ends = (s.end <= 3) & ((w.end <= 9) & ((w.edge <= 3) & path));
+    let within = (w.triangle == 0) | (w.triangle < p.t);
+    let ends = (s.end <= 3) & ((w.end <= 9) & ((w.edge <= 3) & (within & path)));
     let far = farthest(p.t, p.limit);
     (s.place <= far) & ((1 <= s.norms) & ((s.norms <= norms) & ends))
 }

@@ -23,7 +23,7 @@ use Rattle.work.specs.declared.Mark.{Mark}
 use Rattle.work.specs.declared.Run.{Run}
 use Rattle.work.specs.Layout.{atNeighbours, atStarts, atColumns, matrixAt, meshAt}
 use Rattle.work.specs.Ready.{Ready, Standing, MarkKeeping, Roomy}
-use Rattle.image.specs.Calls.{Buffers, unless10, countsFault, spaceFault, standSound, markSound, allNoneOrBelow, wordsSound, heldFault}
+use Rattle.image.specs.Calls.{Buffers, unless10, countsFault, spaceFault, triangleSound, standSound, markSound, allNoneOrBelow, wordsSound, heldFault}
 use Rattle.image.specs.CallLaws.{and-true, Counted, Enough, asked, lacking, lacking-none}
 use Rattle.image.specs.Shown.{lengthsOf}
 
@@ -85,6 +85,17 @@ abbrev pub MarkIn : Plan → Mark → Type 0
 MarkIn p Mark.Nothing = Unit
 MarkIn p (Mark.At k) = PlaceIn p (k .place)
 
+-- also of a record without points
+abbrev pub TriangleIn : Plan → ℕ → Type 0
+TriangleIn p k = (k ≡ 0) ⊎ (k < p .t)
+
+named-in : (p : Plan) (k : ℕ) → triangleSound (p .t) k ≡ true → TriangleIn p k
+named-in p k h = by (or-true (eqb k 0) (ltb k (p .t)) h)
+  where
+    by : (eqb k 0 ≡ true) ⊎ (ltb k (p .t) ≡ true) → TriangleIn p k
+    by (inl x) = inl (eqb-true k 0 x)
+    by (inr x) = inr (ltb-true k (p .t) x)
+
 module _ (p : Plan) (s : Stand) where
   abbrev left : Bool
   left = not (eqb (s .walk .end) 0) || ltb (s .crossings) (factor * p .t)
@@ -95,8 +106,11 @@ module _ (p : Plan) (s : Stand) where
   abbrev walking : Bool
   walking = leb (s .walk .points) (p .room) && (leb (s .crossings) (factor * p .t) && (eqb (s .walk .points) 0 || within))
 
+  abbrev named : Bool
+  named = triangleSound (p .t) (s .walk .triangle)
+
   abbrev ends : Bool
-  ends = leb (s .end) 3 && (leb (s .walk .end) 9 && (leb (s .walk .edge) 3 && walking))
+  ends = leb (s .end) 3 && (leb (s .walk .end) 9 && (leb (s .walk .edge) 3 && (named && walking)))
 
   abbrev norms : Bool
   norms = leb (s .norms) (p .limit + pick (eqb (s .end) 0) 0 1)
@@ -111,16 +125,17 @@ module _ (p : Plan) (s : Stand) where
   one-left : left ≡ true → s .walk .end ≡ 0 → s .crossings < factor * p .t
   one-left e z = ltb-true (s .crossings) (factor * p .t) (rw (eq-eqb (s .walk .end) 0 z) at e)
 
-  pub standing : standSound p s ≡ true → PlaceIn p (s .place) × Standing p s
+  pub standing : standSound p s ≡ true → PlaceIn p (s .place) × Standing p s × TriangleIn p (s .walk .triangle)
   unfolding standSound
   standing h =
       let a = and-true (leb (s .place) (farthest (p .t) (p .limit))) (leb 1 (s .norms) && (norms && ends)) h in
       let b = and-true (leb 1 (s .norms)) (norms && ends) (a .1) in
       let c = and-true norms ends (b .1) in
-      let d = and-true (leb (s .end) 3) (leb (s .walk .end) 9 && (leb (s .walk .edge) 3 && walking)) (c .1) in
-      let e = and-true (leb (s .walk .end) 9) (leb (s .walk .edge) 3 && walking) (d .1) in
-      let f = and-true (leb (s .walk .edge) 3) walking (e .1) in
-      let g = and-true (leb (s .walk .points) (p .room)) (leb (s .crossings) (factor * p .t) && (eqb (s .walk .points) 0 || within)) (f .1) in
+      let d = and-true (leb (s .end) 3) (leb (s .walk .end) 9 && (leb (s .walk .edge) 3 && (named && walking))) (c .1) in
+      let e = and-true (leb (s .walk .end) 9) (leb (s .walk .edge) 3 && (named && walking)) (d .1) in
+      let f = and-true (leb (s .walk .edge) 3) (named && walking) (e .1) in
+      let n = and-true named walking (f .1) in
+      let g = and-true (leb (s .walk .points) (p .room)) (leb (s .crossings) (factor * p .t) && (eqb (s .walk .points) 0 || within)) (n .1) in
       let i = and-true (leb (s .crossings) (factor * p .t)) (eqb (s .walk .points) 0 || within) (g .1) in (
         leb-true (s .place) (farthest (p .t) (p .limit)) (a .0),
         record {
@@ -131,6 +146,7 @@ module _ (p : Plan) (s : Stand) where
           edge-in = leb-true (s .walk .edge) 3 (f .0);
           crossings-left = λ z k. one-left (and-true (ltb (s .walk .triangle) (p .t)) left (on-path (i .1) k) .1) z;
         },
+        named-in p (s .walk .triangle) (n .0),
       )
 
 pub keeping : (p : Plan) (m : Mark) → markSound p m ≡ true → MarkIn p m × MarkKeeping p m
@@ -210,6 +226,7 @@ pub record Accepted (r : Run) (b : Buffers) : Type 0 where
   pub ready : Ready (r .plan) (b .words)
   pub standing : Standing (r .plan) (r .stand)
   pub place-in : PlaceIn (r .plan) (r .stand .place)
+  pub triangle-in : TriangleIn (r .plan) (r .stand .walk .triangle)
   pub roomy : Roomy (r .plan) (b .floats) (b .path)
   pub keeping : MarkKeeping (r .plan) (r .mark)
   pub mark-in : MarkIn (r .plan) (r .mark)
@@ -232,6 +249,7 @@ accepted r b h =
       ready = ready (r .plan) (b .words) count (space .words) (m .1);
       standing = here .1;
       place-in = here .0;
+      triangle-in = here .2;
       roomy = record { floats-fit = space .floats; path-fit = space .path };
       keeping = kept .1;
       mark-in = kept .0;

@@ -48,14 +48,18 @@ shortFault p floats words path =
 abbrev pub spaceFault : Plan → Buffers → ℕ
 spaceFault p b = shortFault p (length (b .floats)) (length (b .words)) (length (b .path))
 
--- the counts of a place: its number, its norms, both ends, the entry edge, the points; while solving a norm more fits, and while crossing there is a triangle and a crossing left
+-- a triangle's number, or 0 where there may be none
+abbrev pub triangleSound : ℕ → ℕ → Bool
+triangleSound count t = eqb t 0 || ltb t count
+
+-- the counts of a place: its number, its norms, both ends, the entry edge, the triangle, the points; while solving a norm more fits, and while crossing there is a triangle and a crossing left
 unfoldable pub standSound : Plan → Stand → Bool
 standSound p s =
     leb (s .place) (farthest (p .t) (p .limit))
     && (leb 1 (s .norms) && (leb (s .norms) (p .limit + pick (eqb (s .end) 0) 0 1)
-    && (leb (s .end) 3 && (leb (s .walk .end) 9 && (leb (s .walk .edge) 3 && (leb (s .walk .points) (p .room)
+    && (leb (s .end) 3 && (leb (s .walk .end) 9 && (leb (s .walk .edge) 3 && (triangleSound (p .t) (s .walk .triangle) && (leb (s .walk .points) (p .room)
     && (leb (s .crossings) (factor * p .t)
-    && (eqb (s .walk .points) 0 || (ltb (s .walk .triangle) (p .t) && (not (eqb (s .walk .end) 0) || ltb (s .crossings) (factor * p .t)))))))))))
+    && (eqb (s .walk .points) 0 || (ltb (s .walk .triangle) (p .t) && (not (eqb (s .walk .end) 0) || ltb (s .crossings) (factor * p .t))))))))))))
 
 unfoldable pub markSound : Plan → Mark → Bool
 markSound p Mark.Nothing = true

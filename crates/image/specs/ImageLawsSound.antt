@@ -24,12 +24,21 @@ use Rattle.model.specs.Space.{factor, farthest, roomOf}
 use Rattle.model.specs.Run.{at, matrixOf, lastPlace}
 use Rattle.model.specs.Sized.{Sized}
 use Rattle.model.specs.SizeLaws.{sized}
-use Rattle.model.specs.RunLaws.{crossings-left, crossings-bound, last-bound, norms-some, norms-below, norms-bound, points-bound, walk-triangle, walk-edge, field-end-bound, path-end-bound}
-use Rattle.image.specs.Calls.{standSound, markSound, allNoneOrBelow, wordsSound}
+use Rattle.model.specs.RunLaws.{crossings-left, crossings-bound, last-bound, norms-some, norms-below, norms-bound, points-bound, walk-triangle, walk-zero-or-below, walk-edge, field-end-bound, path-end-bound}
+use Rattle.image.specs.Calls.{triangleSound, standSound, markSound, allNoneOrBelow, wordsSound}
 use Rattle.image.specs.CallLaws.{and-true, both}
 use Rattle.image.specs.Image.{planOf, standOf, markOf, wordsOf}
 use Rattle.image.specs.ImageLawsLengths.{few}
 use Rattle.image.specs.ImageLawsRead.{words-triangles, words-neighbours, words-starts, words-columns}
+
+-- ---- one number or below another
+
+that-or-below : (k t w : ℕ) → (w ≡ k) ⊎ (w < t) → (eqb w k || ltb w t) ≡ true
+that-or-below k t w h = ⊎-elim (λ (e : w ≡ k). rw (eq-eqb w k e)) (λ (l : w < t). rw (lt-ltb w t l) (either (eqb w k))) h
+  where
+    either : (b : Bool) → (b || true) ≡ true
+    either true = refl
+    either false = refl
 
 -- ---- the counts of a place and of a mark
 
@@ -56,6 +65,9 @@ module _ (c : Content) (z : Sized c) where
       both (ltb (at c p .trail .walk .triangle) t) (not (eqb (at c p .trail .walk .end) 0) || ltb (at c p .trail .crossings) (factor * t))
       (lt-ltb (at c p .trail .walk .triangle) t (walk-triangle c z p (omega arith))) (ended-or-left p (eqb (at c p .trail .walk .end) 0) k refl)
 
+  triangle-sound : (p : ℕ) → triangleSound t (at c p .trail .walk .triangle) ≡ true
+  triangle-sound p = that-or-below 0 t (at c p .trail .walk .triangle) (walk-zero-or-below c z p)
+
   pub stand-sound : (p : ℕ) → p ≤ lastPlace c → standSound (planOf c) (standOf p (at c p)) ≡ true
   unfolding standSound
   stand-sound p h =
@@ -67,6 +79,7 @@ module _ (c : Content) (z : Sized c) where
         le-leb (at c p .field .end) 3 (field-end-bound c p),
         le-leb (at c p .trail .walk .end) 9 (path-end-bound c p),
         le-leb (at c p .trail .walk .edge) 3 (walk-edge c z p),
+        triangle-sound p,
         le-leb (at c p .trail .walk .points) (roomOf c) (points-bound c (z .room) p),
         le-leb (at c p .trail .crossings) (factor * t) (crossings-bound c p),
       )
@@ -94,18 +107,11 @@ below-each n (w ∷ ws) h =
     let k : w < n = h 0 (omega arith) in
     (both (ltb w n) (allBelow n ws) (lt-ltb w n k) (r .0), (k, r .1))
 
-none-or-below : (t w : ℕ) → (w ≡ noNeighbour) ⊎ (w < t) → (eqb w noNeighbour || ltb w t) ≡ true
-none-or-below t w h = ⊎-elim (λ (e : w ≡ noNeighbour). rw (eq-eqb w noNeighbour e)) (λ (k : w < t). rw (lt-ltb w t k) (either (eqb w noNeighbour))) h
-  where
-    either : (b : Bool) → (b || true) ≡ true
-    either true = refl
-    either false = refl
-
 none-each : (t : ℕ) (ws : List ℕ) → ((i : ℕ) → i < length ws → (getD ws i 0 ≡ noNeighbour) ⊎ (getD ws i 0 < t)) → allNoneOrBelow t ws ≡ true
 unfolding allNoneOrBelow
 none-each t [] h = refl
 none-each t (w ∷ ws) h =
-    both (eqb w noNeighbour || ltb w t) (allNoneOrBelow t ws) (none-or-below t w (h 0 (omega arith))) (none-each t ws (λ (i : ℕ) (k : i < length ws). h (suc i) (omega arith)))
+    both (eqb w noNeighbour || ltb w t) (allNoneOrBelow t ws) (that-or-below noNeighbour t w (h 0 (omega arith))) (none-each t ws (λ (i : ℕ) (k : i < length ws). h (suc i) (omega arith)))
 
 -- ---- row starts
 

@@ -2,7 +2,7 @@
 use Prim.Native.Nat.{ℕ, zero, suc, _+_, _-_, _*_, _≤_, _<_, min}
 use native.Mathlib.Omega.{arith}
 use mathlib.Core.Path.{_≡_, refl, sym, ap, _∙_, subst}
-use mathlib.Core.Logic.{_≢_}
+use mathlib.Core.Logic.{_≢_, _⊎_, inl, inr}
 use mathlib.Core.Bool.{Bool, true, false, not}
 use mathlib.Core.List.{List, [], _∷_, _++_, append-nil}
 use lib.Dec.{eqb, leb}
@@ -498,24 +498,28 @@ points-bound c r =
     (λ (k : ℕ) (n : 0 < k) (m : k ≤ 9). omega arith))
     (λ (us : List Float) (t : Trail) (h : 0 < t .walk .points) (ih : t .walk .points ≤ roomOf c). crossing-room c us t ih)
 
--- a path with points is in one of the triangles, which it entered by an edge or none
+-- a path with points is in one of the triangles, which it entered by an edge or none; one without has triangle 0
 record Inside (T : ℕ) (w : Walk) : Type 0 where
   triangle : 0 < w .points → w .triangle < T
+  zero-or-below : (w .triangle ≡ 0) ⊎ (w .triangle < T)
   edge : w .edge ≤ 3
 
 inside : (c : Content) → Sized c → (p : ℕ) → Inside (triangleCount c) (at c p .trail .walk)
 inside c s =
-    trail-ind c (λ (t : Trail). Inside (triangleCount c) (t .walk)) (record { triangle = λ (z : 0 < 0). absurd (omega arith); edge = omega arith })
+    trail-ind c (λ (t : Trail). Inside (triangleCount c) (t .walk)) (record { triangle = λ (z : 0 < 0). absurd (omega arith); zero-or-below = inl refl; edge = omega arith })
     (λ (us : List Float).
     starting-elim (λ (t : Trail). Inside (triangleCount c) (t .walk)) c us
-    (λ (q : Point) (t e : ℕ) (h : t < triangleCount c) (k : e ≤ 3). record { triangle = λ (z : 0 < 1). h; edge = k })
-    (λ (k : ℕ) (n : 0 < k) (m : k ≤ 9). record { triangle = λ (z : 0 < 0). absurd (omega arith); edge = omega arith }))
+    (λ (q : Point) (t e : ℕ) (h : t < triangleCount c) (k : e ≤ 3). record { triangle = λ (z : 0 < 1). h; zero-or-below = inr h; edge = k })
+    (λ (k : ℕ) (n : 0 < k) (m : k ≤ 9). record { triangle = λ (z : 0 < 0). absurd (omega arith); zero-or-below = inl refl; edge = omega arith }))
     (λ (us : List Float) (t : Trail) (h : 0 < t .walk .points) (ih : Inside (triangleCount c) (t .walk)).
     let w : Stands (triangleCount c) (crossingPass c us t .walk) = crossing-walk c s us t (record { triangle-below = ih .triangle h; edge-most = ih .edge }) in
-    record { triangle = λ (z : 0 < crossingPass c us t .walk .points). w .triangle-below; edge = w .edge-most })
+    record { triangle = λ (z : 0 < crossingPass c us t .walk .points). w .triangle-below; zero-or-below = inr (w .triangle-below); edge = w .edge-most })
 
 pub walk-triangle : (c : Content) → Sized c → (p : ℕ) → 0 < at c p .trail .walk .points → at c p .trail .walk .triangle < triangleCount c
 walk-triangle c s p h = inside c s p .triangle h
+
+pub walk-zero-or-below : (c : Content) → Sized c → (p : ℕ) → (at c p .trail .walk .triangle ≡ 0) ⊎ (at c p .trail .walk .triangle < triangleCount c)
+walk-zero-or-below c s p = inside c s p .zero-or-below
 
 pub walk-edge : (c : Content) → Sized c → (p : ℕ) → at c p .trail .walk .edge ≤ 3
 walk-edge c s p = inside c s p .edge

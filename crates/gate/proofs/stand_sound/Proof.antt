@@ -11,13 +11,13 @@ norms-most-requires : tie.Need-norms-most-requires
 norms-most-requires c κs = search needs
 
 farthest-requires : tie.Need-farthest-requires
-farthest-requires c κs = let h : _ = c .before .before .before .before .before .before .before .before .before .before .before .before .before .before .pre in h
+farthest-requires c κs = let h : _ = c .before .before .before .before .before .before .before .before .before .before .before .before .before .before .before .before .before .pre in h
 
 returns : tie.Need-returns
 unfolding standSound
 returns c =
     let far : _ = c .before .before .before .farthest .ensures in
-    let most : _ = c .before .before .before .before .before .before .before .before .before .before .before .before .before .before .before .norms-most .ensures in
+    let most : _ = c .before .before .before .before .before .before .before .before .before .before .before .before .before .before .before .before .before .before .norms-most .ensures in
     rw (far, most)
 
 pub stand-sound-spec : {M : Type 1} → statement M
