@@ -40,6 +40,8 @@ pub fn altered() -> Cases {
             kind("records and buffers altered anyhow, on rings", 500, |rng, _, tally| each(rng, tally, 4, ring, anyhow)),
             kind("records and buffers altered anyhow, on heaps", 500, |rng, _, tally| each(rng, tally, 4, heap, anyhow)),
             kind("one index or count out of its range", 300, |rng, _, tally| each(rng, tally, 4, ring, out_of_range)),
+            kind("advances near the most passes, on rings", 300, |rng, _, tally| each(rng, tally, 4, ring, near_the_most)),
+            kind("advances near the most passes, on heaps", 300, |rng, _, tally| each(rng, tally, 4, heap, near_the_most)),
         ],
         sorts: &[
             Sort { what: "calls", classes: &["advance", "back", "mark", "return"] },
@@ -113,7 +115,7 @@ fn kind_of_place(trace: &Trace, machine: &Machine) -> usize {
     }
 }
 
-fn note(tally: &mut Tally, call: Call, said: u32) {
+pub fn note(tally: &mut Tally, call: Call, said: u32) {
     tally.counts.note(0, call.numbers()[0] as usize);
     tally.counts.note(1, [0, 8, 9, 10].iter().position(|k| *k == said).unwrap());
 }
@@ -217,6 +219,37 @@ fn returns(opened: &mut Opened, call: Call, lent: [usize; 3], tally: &mut Tally)
         same_buffers(&before, &opened.buffers)?;
     }
     Ok(said)
+}
+
+/// An advance on altered work whose gain is known from one with no passes counted: where the count just holds it, the same comes of it, and where it
+/// does not, the advance is refused with 10 and changes nothing.
+fn near_the_most(rng: &mut Rng, content: &Content, tally: &mut Tally) {
+    let verdict = somewhere(rng, content).and_then(|mut opened| {
+        for _ in 0..rng.between(1, 3) {
+            alter(rng, &mut opened);
+        }
+        let call = Call::Advance(rng.pick(&[1, 2, 5, 30, 60, 1000]));
+        opened.record.wholes[rattle::PASSES] = 0;
+        let before = (opened.record.clone(), opened.buffers.clone());
+        if opened.call(call) != 0 {
+            return Ok(());
+        }
+        let after = (opened.record.clone(), opened.buffers.clone());
+        let gain = opened.record.wholes[rattle::PASSES];
+        for over in 0..=gain.min(1) {
+            (opened.record, opened.buffers) = before.clone();
+            opened.record.wholes[rattle::PASSES] = u64::MAX - gain + over;
+            let mut expected = if over == 0 { after.clone() } else { (opened.record.clone(), before.1.clone()) };
+            expected.0.wholes[rattle::PASSES] = if over == 0 { u64::MAX } else { u64::MAX - gain + 1 };
+            let said = opened.call(call);
+            note(tally, call, said);
+            same("refusal", 10 * over as u32, said)?;
+            same("the record", &expected.0, &opened.record)?;
+            same_buffers(&expected.1, &opened.buffers)?;
+        }
+        Ok(())
+    });
+    tally.note(verdict);
 }
 
 /// One index or count that is outside its range: every call refuses with 10, and record and buffers are as they were.

@@ -33,6 +33,8 @@ mod samples;
 mod shapes;
 #[cfg(sheet)]
 mod sheets;
+#[cfg(run)]
+mod stacks;
 mod stand_ins;
 mod timing;
 #[cfg(run)]
@@ -75,7 +77,7 @@ fn subjects() -> Vec<Box<dyn Compared>> {
     all.extend([Box::new(sheets::reading()) as Box<dyn Compared>, Box::new(sheets::writing())]);
     all.extend([Box::new(fields::fields()) as Box<dyn Compared>, Box::new(paths::paths()), Box::new(whole::whole())]);
     #[cfg(run)]
-    all.extend([Box::new(calls::lists()) as Box<dyn Compared>, Box::new(calls::altered())]);
+    all.extend([Box::new(calls::lists()) as Box<dyn Compared>, Box::new(calls::altered()), Box::new(stacks::stacks())]);
     all
 }
 

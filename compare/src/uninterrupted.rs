@@ -6,7 +6,7 @@ use crate::originals::interp::barycentric_interpolate;
 use crate::originals::intersect::get_ray_line_intersection;
 use crate::originals::pde::private::point_in_triangle;
 use crate::stand_ins::Point;
-use std::rc::Rc;
+use std::sync::Arc;
 
 pub const TINY: f64 = 1e-30;
 pub const DULL: f64 = 1e-12;
@@ -416,7 +416,7 @@ pub struct Trace {
 }
 
 struct Place {
-    x: Rc<Vec<f64>>,
+    x: Arc<Vec<f64>>,
     norms: usize,
     field_end: u32,
     points: usize,
@@ -427,11 +427,11 @@ impl Trace {
     pub fn new(run: &Run) -> Trace {
         let mut s = run.start();
         let unfilled = s.gradients.clone();
-        let mut x = Rc::new(s.x.clone());
+        let mut x = Arc::new(s.x.clone());
         let mut places = Vec::new();
         loop {
             if s.field_end == 0 || s.points.is_empty() {
-                x = Rc::new(s.x.clone());
+                x = Arc::new(s.x.clone());
             }
             places.push(Place { x: x.clone(), norms: s.norms.len(), field_end: s.field_end, points: s.points.len(), path_end: s.path_end });
             if !run.pass(&mut s) {
