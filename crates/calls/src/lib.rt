@@ -46,7 +46,7 @@ fn seek(run: Run, target: usize, floats: &mut [f64], words: &[u32], path: &mut [
     let plan = run.plan;
     let stand = run.stand;
     let mark = run.mark;
-    work::seek::seek(floats, words, path, plan, stand, mark, target)
+    seek::seek(floats, words, path, plan, stand, mark, target)
 }
 
 // Whether a gain would carry passes beyond the most.
@@ -114,7 +114,7 @@ pub fn mark(run: Run, floats: &mut [f64], words: &[u32], path: &mut [f64]) -> An
     }
     let plan = run.plan;
     let stand = run.stand;
-    work::seek::keep(floats, plan);
+    seek::keep(floats, plan);
     let kept = Kept {
         place: stand.place,
         rs: stand.rs,

@@ -1,3 +1,3 @@
 pub mod Laws
-pub mod LawsSeek
 pub mod LawsKinds
+pub mod LawsPlace

@@ -1,10 +1,9 @@
-// The work of a run in the three lent buffers: one pass, passes in a row, and the way to another place.
+// The work of a run in the three lent buffers: one pass, and passes in a row.
 pub mod dry;
 pub mod kinds;
 pub mod layout;
 pub mod pass;
-mod place;
-pub mod seek;
+pub mod place;
 
 use pde::Walk;
 use plane::Point;

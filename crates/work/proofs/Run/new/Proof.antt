@@ -1,5 +1,5 @@
 -- `Run::new` meets its contract: its stand is that of place 0. Assumes nothing.
-use Rattle.work.proofs.LawsSeek.{new-is}
+use Rattle.work.proofs.LawsPlace.{new-is}
 use borrow.Author.Needs.{needs}
 use Rattle.work.proofs.Run.new.Statement.{statement}
 use Rattle.work.proofs.Run.new.Tie as tie

@@ -1,6 +1,6 @@
 -- `pathless` meets its contract: its walk is that of no path. Assumes nothing.
 use borrow.Author.Needs.{needs}
-use Rattle.work.proofs.LawsSeek.{stood-nowhere}
+use Rattle.work.proofs.LawsPlace.{stood-nowhere}
 use Rattle.work.proofs.place.pathless.Statement.{statement}
 use Rattle.work.proofs.place.pathless.Tie as tie
 
