@@ -38,7 +38,7 @@ pub fn triangle_gradient(
 }
 
 // The gradient on triangle t of the field that starts at u.
-fn gradient_in(floats: &[f64], words: &[u32], m: Mesh, u: usize, flat: f64, t: usize) -> Point
+pub fn gradient_in(floats: &[f64], words: &[u32], m: Mesh, u: usize, flat: f64, t: usize) -> Point
     requires { ⌜ (Meshed (now floats) (now words) m) × (u + m .n ≤ length (now floats)) × (t < m .t) ⌝ }
     ensures { λ r. ⌜ r ≡ gradientIn flat (now (floats .entry)) (now (words .entry)) m u t ⌝ }
 {

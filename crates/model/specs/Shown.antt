@@ -15,7 +15,7 @@ use Rattle.gradient.specs.Gradient.{triangleGradient, gradientOf, gradients}
 use Rattle.pde.specs.Search.{firstOf}
 use Rattle.pde.specs.Start.{containedIn, triangleContaining, innerEdge, innerEdgeOf, firstInner, leastFrom, leastVertex, centroidWith, firstWith, pickStart}
 use Rattle.pde.specs.Exit.{distance, considered, nearestOf, namesBack, entryEdge, cutEdge, cutTriangle, cutMatch}
-use Rattle.pde.specs.Crossing.{gradientAt, magnitude, direction, valueIn, entering, entered, unentered, beyond, pieces, crossing}
+use Rattle.pde.specs.Crossing.{gradientAt, magnitude, direction, valueIn, entering, entered, unentered, beyond, pieces, crossingAlong, crossing}
 use Rattle.pde.specs.Path.{partWay, along, between, closing, walked}
 use Rattle.format.specs.Bytes.{number, bytes, numbers, allBytes}
 use Rattle.format.specs.Content.{Content}
@@ -48,7 +48,7 @@ shownOf p s = record {
 
 -- Whatever unfolds this unfolds every definition that the run computes with.
 unfoldable pub shown : Content → Shown
-unfolding zipWith ofBits toBits add sub mul div neg lt le eq ofInt absOf clampOf atLeast ceilCount root rootOf rootPattern wholeRoot minus dotOf lengthSquared signOf pointInTriangle rayLineIntersection barycentricWeights interpolated dotFrom dot rowFrom rowProduct matVec vertex corner neighbour tagOf free heldValue trianglePushes pushes insert inserted row rows allCoupled settled rightSide cgPass begun triangleGradient gradientOf gradients firstOf containedIn triangleContaining innerEdge innerEdgeOf firstInner leastFrom leastVertex centroidWith firstWith pickStart distance considered nearestOf namesBack entryEdge cutEdge cutTriangle cutMatch gradientAt magnitude direction valueIn entering entered unentered beyond crossing pieces partWay along between closing walked matrixOf rightOf place0 solved solving startFrom starting crossed crossingPass nextOf passBy pass at lastFrom lastPlace
+unfolding zipWith ofBits toBits add sub mul div neg lt le eq ofInt absOf clampOf atLeast ceilCount root rootOf rootPattern wholeRoot minus dotOf lengthSquared signOf pointInTriangle rayLineIntersection barycentricWeights interpolated dotFrom dot rowFrom rowProduct matVec vertex corner neighbour tagOf free heldValue trianglePushes pushes insert inserted row rows allCoupled settled rightSide cgPass begun triangleGradient gradientOf gradients firstOf containedIn triangleContaining innerEdge innerEdgeOf firstInner leastFrom leastVertex centroidWith firstWith pickStart distance considered nearestOf namesBack entryEdge cutEdge cutTriangle cutMatch gradientAt magnitude direction valueIn entering entered unentered beyond crossingAlong crossing pieces partWay along between closing walked matrixOf rightOf place0 solved solving startFrom starting crossed crossingPass nextOf passBy pass at lastFrom lastPlace
 shown c = shownOf (lastPlace c) (at c (lastPlace c))
 
 -- a content's sheet, read

@@ -22,7 +22,7 @@ use Rattle.pde.specs.declared.Rule.{Rule}
 use Rattle.pde.specs.declared.Start.{Start}
 use Rattle.pde.specs.Start.{noEdge, orElse, contains, containedIn, triangleContaining, isInner, middle, innerEdge, innerEdgeOf, firstInner, leastVertex, has, centroid, centroidWith, firstWith, pickStart}
 use Rattle.pde.specs.Exit.{Nearest, distance, orSide, isCut, offered, considered, nearestOf, exitEdge, namesBack, entryEdge, cutEdge, cutTriangle, cutMatch, nearest}
-use Rattle.pde.specs.Crossing.{gradientAt, magnitude, direction, valueIn, entering, entered, unentered, beyond, left, crossing}
+use Rattle.pde.specs.Crossing.{gradientAt, magnitude, direction, valueIn, entering, entered, unentered, beyond, left, crossingAlong, crossing}
 
 -- ---- where an answer points
 
@@ -197,9 +197,13 @@ module _ (rule : Rule) (vs : List Float) (ts ns : List ℕ) (n : ℕ) (us : List
   left-in pos t (Exit.Through e p) h k = entering-in n (rule .above) vs ts us p _ _ (entered-in ts ns n inside t e h k) (unentered-in n _)
   left-in pos t Exit.Nothing h k = tt
 
+  along-in : (g : Point) (step : Float) (pos : Point) (t entry : ℕ) → t < n → CrossingIn n (crossingAlong rule vs ts ns n us g step pos t entry)
+  unfolding crossingAlong
+  along-in g step pos t entry h =
+      let mag = magnitude g in
+      let exit = exitEdge vs ts t pos (direction step g mag) entry in
+      pick-in (CrossingIn n) (lt mag (rule .dull)) Crossing.Dull (left rule vs ts ns n us pos t exit) (λ _. tt) (λ _. left-in pos t exit h (exit-in vs ts t pos _ entry))
+
   pub crossing-in : (gs : List Float) (step : Float) (pos : Point) (t entry : ℕ) → t < n → CrossingIn n (crossing rule vs ts ns n us gs step pos t entry)
   unfolding crossing
-  crossing-in gs step pos t entry h =
-      let mag = magnitude (gradientAt gs t) in
-      let exit = exitEdge vs ts t pos (direction step (gradientAt gs t) mag) entry in
-      pick-in (CrossingIn n) (lt mag (rule .dull)) Crossing.Dull (left rule vs ts ns n us pos t exit) (λ _. tt) (λ _. left-in pos t exit h (exit-in vs ts t pos _ entry))
+  crossing-in gs step pos t entry h = along-in (gradientAt gs t) step pos t entry h

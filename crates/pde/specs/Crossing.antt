@@ -70,9 +70,12 @@ abbrev pub left : Rule → List Float → List ℕ → List ℕ → ℕ → List
 left rule vs ts ns count us pos t (Exit.Through e p) = Crossing.Leaves p (pieces (rule .spacing) pos p) (beyond (rule .above) vs ts ns count us t e p)
 left rule vs ts ns count us pos t Exit.Nothing = Crossing.Stuck
 
--- what crossing triangle t from pos, entered by an edge, comes to
-unfoldable pub crossing : Rule → List Float → List ℕ → List ℕ → ℕ → List Float → List Float → Float → Point → ℕ → ℕ → Crossing
-crossing rule vs ts ns count us gs step pos t entry =
-    let g = gradientAt gs t in
+-- what crossing triangle t from pos, entered by an edge, comes to where g is its gradient
+unfoldable pub crossingAlong : Rule → List Float → List ℕ → List ℕ → ℕ → List Float → Point → Float → Point → ℕ → ℕ → Crossing
+crossingAlong rule vs ts ns count us g step pos t entry =
     let mag = magnitude g in
     pick (lt mag (rule .dull)) Crossing.Dull (left rule vs ts ns count us pos t (exitEdge vs ts t pos (direction step g mag) entry))
+
+-- the same where gs has the gradients of all triangles
+unfoldable pub crossing : Rule → List Float → List ℕ → List ℕ → ℕ → List Float → List Float → Float → Point → ℕ → ℕ → Crossing
+crossing rule vs ts ns count us gs step pos t entry = crossingAlong rule vs ts ns count us (gradientAt gs t) step pos t entry

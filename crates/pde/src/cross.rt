@@ -14,13 +14,13 @@ ghost use Rattle.mesh.specs.Mesh as Lists;
 ghost use Rattle.mesh.specs.Work.{verticesOf, trianglesOf, neighboursOf, Linked};
 ghost use Rattle.pde.specs.Bounds.{SideIn};
 ghost use Rattle.pde.specs.Crossing as Crossings;
-ghost use Rattle.pde.specs.Work.{Fielded, Graded, fieldOf, gradientsOf, crossingIn};
+ghost use Rattle.pde.specs.Work.{Fielded, fieldOf, gradientsOf, crossingIn};
 
 // Bits 400921fb54442d18.
 const PI: f64 = 3.141592653589793;
 
 // The gradient of triangle t.
-fn gradient_at(floats: &[f64], m: Mesh, gradients: usize, t: usize) -> Point
+pub fn gradient_at(floats: &[f64], m: Mesh, gradients: usize, t: usize) -> Point
     requires { ⌜ (gradients + 2 * m .t ≤ length (now floats)) × (t < m .t) ⌝ }
     ensures { λ r. ⌜ r ≡ Crossings.gradientAt (gradientsOf (now (floats .entry)) m gradients) t ⌝ }
 {
@@ -131,23 +131,22 @@ fn beyond(
     entering(floats, words, m, u, above, p, side, unentered(next))
 }
 
-// What crossing triangle t from `pos`, entered by an edge, comes to.
+// What crossing triangle t, whose gradient is g, from `pos`, entered by an edge, comes to.
 pub fn crossing(
     floats: &[f64],
     words: &[u32],
     m: Mesh,
     u: usize,
-    gradients: usize,
     rule: Rule,
     step: f64,
+    g: Point,
     pos: Point,
     t: usize,
     entry: usize,
 ) -> Crossing
-    requires { ⌜ (Graded (now floats) (now words) m u gradients) × (t < m .t) ⌝ }
-    ensures { λ r. ⌜ r ≡ crossingIn (now (floats .entry)) (now (words .entry)) m u gradients rule step pos t entry ⌝ }
+    requires { ⌜ (Fielded (now floats) (now words) m u) × (t < m .t) ⌝ }
+    ensures { λ r. ⌜ r ≡ crossingIn (now (floats .entry)) (now (words .entry)) m u rule step g pos t entry ⌝ }
 {
-    let g = gradient_at(floats, m, gradients, t);
     let mag = magnitude(g);
     if mag < rule.dull {
         return Crossing::Dull;

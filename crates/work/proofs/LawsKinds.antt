@@ -34,7 +34,8 @@ use Rattle.pde.specs.declared.Walk.{Walk}
 use Rattle.pde.specs.declared.Crossing.{Crossing}
 use Rattle.pde.specs.Start.{triangleContaining, pickStart}
 use Rattle.pde.specs.Path.{ended, walked, added}
-use Rattle.pde.specs.Work.{Fielded, Graded, fieldOf, gradientsOf, crossingIn}
+use Rattle.pde.specs.Crossing.{gradientAt, crossing}
+use Rattle.pde.specs.Work.{Fielded, fieldOf, gradientsOf, crossingIn}
 use Rattle.model.specs.Run.{rule, nowhere}
 use Rattle.work.specs.declared.Given.{Given}
 use Rattle.work.specs.declared.Gives.{Gives}
@@ -126,8 +127,8 @@ module _ (plan : Plan) (words : List ℕ) (f : List Float) (m : Mesh) (em : m �
   pub front-fielded : (u : ℕ) → u ≡ atX (plan .n) (plan .t) → Fielded f words m u
   front-fielded u eu = let e : m .n ≡ plan .n = ap (λ (x : Mesh). x .n) em in record { meshed = front-meshed; field-fits = omega (arith, h .long) }
 
-  pub front-graded : (u at : ℕ) → u ≡ atX (plan .n) (plan .t) → at ≡ atGradients (plan .n) (plan .t) → Graded f words m u at
-  front-graded u at eu ea = let e : m .t ≡ plan .t = ap (λ (x : Mesh). x .t) em in record { fielded = front-fielded u eu; gradients-fit = omega (arith, h .long) }
+  pub front-graded : (at : ℕ) → at ≡ atGradients (plan .n) (plan .t) → at + 2 * m .t ≤ length f
+  front-graded at ea = let e : m .t ≡ plan .t = ap (λ (x : Mesh). x .t) em in omega (arith, h .long)
 
   pub front-laid : (u at : ℕ) → u ≡ atX (plan .n) (plan .t) → at ≡ atGradients (plan .n) (plan .t) → Gradients.Laid f words m u at
   front-laid u at eu ea = rw (em, eu, ea) (record { meshed = rw em at front-meshed; vertices-before = omega arith; field-before = omega arith; fits = omega (arith, h .long) })
@@ -186,10 +187,10 @@ begin-leads plan words f s d f′ o e = record {
 
 -- ---- a crossing
 
-pub crossing-is : (plan : Plan) (words : List ℕ) (f : List Float) (p : Point) (k e : ℕ) (m : Mesh) (u at : ℕ) (r : Crossing) → m ≡ meshAt (plan .n) (plan .t) → u ≡ atX (plan .n) (plan .t)
-    → at ≡ atGradients (plan .n) (plan .t) → r ≡ crossingIn f words m u at rule (plan .step) p k e → r ≡ crossingFrom plan words f p k e
-unfolding verticesOf trianglesOf neighboursOf fieldOf gradientsOf
-crossing-is plan words f p k e m u at r em eu ea is = rw (em, eu, ea) at is
+pub crossing-is : (plan : Plan) (words : List ℕ) (f : List Float) (p : Point) (k e : ℕ) (m : Mesh) (u at : ℕ) (g : Point) (r : Crossing) → m ≡ meshAt (plan .n) (plan .t) → u ≡ atX (plan .n) (plan .t)
+    → at ≡ atGradients (plan .n) (plan .t) → g ≡ gradientAt (gradientsOf f m at) k → r ≡ crossingIn f words m u rule (plan .step) g p k e → r ≡ crossingFrom plan words f p k e
+unfolding verticesOf trianglesOf neighboursOf fieldOf gradientsOf crossing
+crossing-is plan words f p k e m u at g r em eu ea eg is = rw (eg, em, eu, ea) at is
 
 pub crossed-is : (plan : Plan) (s : Stand) (c : Crossing) (last : Bool) (w : Walk) (s′ : Stand)
     → last ≡ eqb (s .crossings + 1) (20 * plan .t) → w ≡ walked (plan .room) last (s .walk) c → s′ ≡ walkedStand s w (s .crossings + 1) → s′ ≡ crossedStand plan s c

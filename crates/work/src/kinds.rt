@@ -191,18 +191,8 @@ pub fn crossing_of(
         above: Run::ABOVE,
         spacing: Run::SPACING,
     };
-    pde::cross::crossing(
-        front,
-        words,
-        m,
-        u,
-        at,
-        rule,
-        plan.step,
-        from,
-        triangle,
-        edge,
-    )
+    let g = pde::cross::gradient_at(front, m, at, triangle);
+    pde::cross::crossing(front, words, m, u, rule, plan.step, g, from, triangle, edge)
 }
 
 // Which crossing is the last of all.
