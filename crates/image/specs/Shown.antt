@@ -22,6 +22,8 @@ use Rattle.work.specs.declared.Run.{Run}
 use Rattle.work.specs.Layout.{atX, atGradients, atNorms, matrixAt}
 use Rattle.image.specs.Calls.{Buffers}
 use Rattle.image.specs.Lists.{Held}
+use Rattle.image.specs.Parts.{fieldOf, normsOf, gradientsOf}
+use Rattle.image.specs.Points.{pointsOf}
 
 -- ---- where the machine stands
 
@@ -105,3 +107,10 @@ pub record Shown (c : Content) (s : Counter) (run : Run) (b : Buffers) : Type 0 
 pub record ListShown (c : Content) (t : Ticked) (h : Held) : Type 0 where
   pub refusals : h .said ≡ t .said
   pub shown : Shown c (t .counter) (h .run) (h .all)
+
+-- What `field`, `norms`, `gradients` and `points` hand out of a record and the buffers is what the uninterrupted run has where the machine stands.
+pub record HandedOut (c : Content) (s : Counter) (run : Run) (b : Buffers) : Type 0 where
+  pub field : fieldOf run (b .floats) ≡ stateAt c s .field .solve .x
+  pub norms : normsOf run (b .floats) ≡ stateAt c s .field .norms
+  pub gradients : gradientsOf run (b .floats) ≡ stateAt c s .trail .gradients
+  pub points : pointsOf run (b .path) ≡ stateAt c s .trail .path
