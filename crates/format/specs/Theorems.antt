@@ -1,6 +1,6 @@
 -- The sheet format's theorems. Reading and writing are inverse: what a byte string is read as is written as that string (`parse-bytes`), and what a content that is not refused
 -- is written as is read as that content (`bytes-parse`). What is accepted meets every range of document 01's section Sheet (`parse-sound`), and what meets them all is
--- accepted (`parse-complete`, and `bytes-parse` after it).
+-- accepted (`parse-complete`).
 -- Assumes nothing.
 use Prim.Native.Nat.{ℕ, suc, _+_, _-_, _*_, _^_, _≤_, _<_, zero-le, suc-le-suc}
 use mathlib.Core.Path.{_≡_, refl, sym, ap, ap₂, _∙_, subst}
@@ -405,8 +405,8 @@ neighbour-none T x (inr h) = go (eqb x noNeighbour)
     go true = refl
     go false = pick-true 0 4 (lt-ltb x T h)
 
-pub parse-complete : (c : Content) → InRange c → refusalOf c ≡ 0
-parse-complete c h =
+pub refusal-complete : (c : Content) → InRange c → refusalOf c ≡ 0
+refusal-complete c h =
     refusal-none
     (record {
       vertices = h .vertices;
@@ -422,6 +422,10 @@ parse-complete c h =
       settings = values-none (c .settings) (record { limit = h .limit; tolerance = h .tolerance; step = h .step; x = h .x; y = h .y; room = h .room });
       given = none-missing (c .settings) (record { step = h .stepGiven; room = h .roomGiven; start = h .startTogether });
     })
+
+-- the sheet of a content in range is accepted, and read as that content
+pub parse-complete : (c : Content) → InRange c → Doubles c → parse (bytesOf c) ≡ accepted c
+parse-complete c h d = bytes-parse c d (refusal-complete c h)
 
 -- what is read from a sheet is no more refused than the sheet
 content-clean : (b : List ℕ) → Bytes b → Faultless b → Clean (contentOf b)

@@ -1,9 +1,9 @@
--- Document 01's samples S1 to S6 and S8 to S10, computed from the definitions: what `spiral` prints, the counter machine, and what the sheet's reader refuses. S7 is the square root's.
+-- Document 01's samples S1 to S6 and S8 to S10, computed from the definitions: what `spiral` prints, the counter machine, and what the sheet's reader accepts and refuses. S7 is the square root's.
 -- Assumes nothing.
-use Prim.Native.Nat.{ℕ}
+use Prim.Native.Nat.{ℕ, _-_}
 use mathlib.Core.Path.{_≡_, refl}
 use mathlib.Core.List.{List, [], _∷_}
-use mathlib.Core.Option.{some}
+use mathlib.Core.Option.{none, some}
 use lib.Ieee.{Float, nan, binary64, ofBits}
 use Rattle.plane.specs.Plane.{point}
 use Rattle.format.specs.declared.Whole.{Whole}
@@ -12,7 +12,7 @@ use Rattle.format.specs.declared.Settings.{Settings}
 use Rattle.format.specs.Content.{Content}
 use Rattle.format.specs.Sheet.{accepted, refused}
 use Rattle.model.specs.Run.{at, lastPlace}
-use Rattle.model.specs.Machine.{Call, advance, back, mark, return, fresh, needs, Lent, ticks}
+use Rattle.model.specs.Machine.{Call, advance, back, mark, return, Space, Counter, fresh, most, needs, Lent, Ticked, ticks}
 use Rattle.model.specs.Shown.{Shown, shown, sheetRead}
 
 -- ---- the sheets
@@ -149,6 +149,14 @@ pub s2-room-4 : shown (s2 4) ≡ record {
 unfolding shown
 s2-room-4 = refl
 
+pub s2-read-5 : sheetRead (s2 5) ≡ accepted (s2 5)
+unfolding sheetRead
+s2-read-5 = refl
+
+pub s2-read-4 : sheetRead (s2 4) ≡ accepted (s2 4)
+unfolding sheetRead
+s2-read-4 = refl
+
 -- ---- S3
 
 pub s3-shown : shown s3 ≡ record {
@@ -190,6 +198,75 @@ pub s5-ticked : ticks (needs s1) (needs s1) (lastPlace s1) s5 (record { counter 
 unfolding shown ticks needs
 s5-ticked = refl
 
+-- ---- refusals of the counter machine, on S1's sheet, whose last place is 3
+
+-- what one call comes to from a state, lent some space
+abbrev ticked : Call → Space → Counter → Ticked
+ticked call space s = ticks (needs s1) (needs s1) (lastPlace s1) (record { call = call; space = space } ∷ []) (record { counter = s; said = [] })
+
+-- the refusal's number, with the state as it was; 0 if the call is not refused
+abbrev said : ℕ → Counter → Ticked
+said k s = record { counter = s; said = k ∷ [] }
+
+-- at a place with no mark and so many passes
+abbrev unmarked : ℕ → ℕ → Counter
+unmarked place passes = record { place = place; mark = none; passes = passes }
+
+-- a place too few of one buffer
+abbrev fewFloats : Space
+fewFloats = record { floats = needs s1 .floats - 1; words = needs s1 .words; path = needs s1 .path }
+
+abbrev fewWords : Space
+fewWords = record { floats = needs s1 .floats; words = needs s1 .words - 1; path = needs s1 .path }
+
+abbrev fewPoints : Space
+fewPoints = record { floats = needs s1 .floats; words = needs s1 .words; path = needs s1 .path - 1 }
+
+-- 8 before 9, whichever buffer is short, and before 10
+pub return-short : ticked return fewFloats (unmarked 2 2) ≡ said 8 (unmarked 2 2)
+unfolding shown ticks needs
+return-short = refl
+
+pub back-short : ticked (back 1) fewWords (unmarked 2 2) ≡ said 8 (unmarked 2 2)
+unfolding shown ticks needs
+back-short = refl
+
+pub mark-short : ticked mark fewPoints (unmarked 2 2) ≡ said 8 (unmarked 2 2)
+unfolding shown ticks needs
+mark-short = refl
+
+pub advance-short : ticked (advance 1) fewFloats (unmarked 2 most) ≡ said 8 (unmarked 2 most)
+unfolding shown ticks needs
+advance-short = refl
+
+pub return-unmarked : ticked return (needs s1) (unmarked 2 2) ≡ said 9 (unmarked 2 2)
+unfolding shown ticks needs
+return-unmarked = refl
+
+-- an advance that gains a pass at 2^64 − 1
+pub advance-too-far : ticked (advance 1) (needs s1) (unmarked 2 most) ≡ said 10 (unmarked 2 most)
+unfolding shown ticks needs
+advance-too-far = refl
+
+-- it gains three, and there is room for two
+pub advance-three : ticked (advance 4294967295) (needs s1) (unmarked 0 (most - 2)) ≡ said 10 (unmarked 0 (most - 2))
+unfolding shown ticks needs
+advance-three = refl
+
+-- it gains the one that there is room for
+pub advance-one : ticked (advance 4294967295) (needs s1) (unmarked 2 (most - 1)) ≡ said 0 (unmarked 3 most)
+unfolding shown ticks needs
+advance-one = refl
+
+-- it gains none: at the last place, and by 0
+pub advance-at-last : ticked (advance 1) (needs s1) (unmarked 3 most) ≡ said 0 (unmarked 3 most)
+unfolding shown ticks needs
+advance-at-last = refl
+
+pub advance-by-none : ticked (advance 0) (needs s1) (unmarked 2 most) ≡ said 0 (unmarked 2 most)
+unfolding shown ticks needs
+advance-by-none = refl
+
 -- ---- S6
 
 pub s6-shown : shown s6 ≡ record { place = 2; fieldEnd = 2; pathEnd = 8; us = []; rs = 0 ∷ []; gs = []; ps = [] }
@@ -210,6 +287,14 @@ s8-accepted = refl
 pub s8-outside : shown (startAt three three) .pathEnd ≡ 8
 unfolding shown
 s8-outside = refl
+
+pub s8-read-accepted : sheetRead (startAt one one) ≡ accepted (startAt one one)
+unfolding sheetRead
+s8-read-accepted = refl
+
+pub s8-read-outside : sheetRead (startAt three three) ≡ accepted (startAt three three)
+unfolding sheetRead
+s8-read-outside = refl
 
 pub s8-nan-x : sheetRead (startAt nan one) ≡ refused 6
 unfolding sheetRead
