@@ -12,7 +12,7 @@ use Rattle.format.specs.declared.Settings.{Settings}
 use Rattle.format.specs.Content.{Content}
 use Rattle.format.specs.Sheet.{accepted, refused}
 use Rattle.model.specs.Run.{at, lastPlace}
-use Rattle.model.specs.Machine.{Call, advance, back, mark, return, Space, Counter, fresh, most, needs, Lent, Ticked, ticks}
+use Rattle.model.specs.Machine.{Call, advance, back, mark, return, Space, Counter, fresh, needs, Lent, Ticked, ticks}
 use Rattle.model.specs.Shown.{Shown, shown, sheetRead}
 
 -- ---- the sheets
@@ -212,6 +212,10 @@ said k s = record { counter = s; said = k ∷ [] }
 abbrev unmarked : ℕ → ℕ → Counter
 unmarked place passes = record { place = place; mark = none; passes = passes }
 
+-- 2^64 − 1 passes
+abbrev full : ℕ
+full = 18446744073709551615
+
 -- a place too few of one buffer
 abbrev fewFloats : Space
 fewFloats = record { floats = needs s1 .floats - 1; words = needs s1 .words; path = needs s1 .path }
@@ -235,7 +239,7 @@ pub mark-short : ticked mark fewPoints (unmarked 2 2) ≡ said 8 (unmarked 2 2)
 unfolding shown ticks needs
 mark-short = refl
 
-pub advance-short : ticked (advance 1) fewFloats (unmarked 2 most) ≡ said 8 (unmarked 2 most)
+pub advance-short : ticked (advance 1) fewFloats (unmarked 2 full) ≡ said 8 (unmarked 2 full)
 unfolding shown ticks needs
 advance-short = refl
 
@@ -244,26 +248,26 @@ unfolding shown ticks needs
 return-unmarked = refl
 
 -- an advance that gains a pass at 2^64 − 1
-pub advance-too-far : ticked (advance 1) (needs s1) (unmarked 2 most) ≡ said 10 (unmarked 2 most)
+pub advance-too-far : ticked (advance 1) (needs s1) (unmarked 2 full) ≡ said 10 (unmarked 2 full)
 unfolding shown ticks needs
 advance-too-far = refl
 
 -- it gains three, and there is room for two
-pub advance-three : ticked (advance 4294967295) (needs s1) (unmarked 0 (most - 2)) ≡ said 10 (unmarked 0 (most - 2))
+pub advance-three : ticked (advance 4294967295) (needs s1) (unmarked 0 (full - 2)) ≡ said 10 (unmarked 0 (full - 2))
 unfolding shown ticks needs
 advance-three = refl
 
 -- it gains the one that there is room for
-pub advance-one : ticked (advance 4294967295) (needs s1) (unmarked 2 (most - 1)) ≡ said 0 (unmarked 3 most)
+pub advance-one : ticked (advance 4294967295) (needs s1) (unmarked 2 (full - 1)) ≡ said 0 (unmarked 3 full)
 unfolding shown ticks needs
 advance-one = refl
 
 -- it gains none: at the last place, and by 0
-pub advance-at-last : ticked (advance 1) (needs s1) (unmarked 3 most) ≡ said 0 (unmarked 3 most)
+pub advance-at-last : ticked (advance 1) (needs s1) (unmarked 3 full) ≡ said 0 (unmarked 3 full)
 unfolding shown ticks needs
 advance-at-last = refl
 
-pub advance-by-none : ticked (advance 0) (needs s1) (unmarked 2 most) ≡ said 0 (unmarked 2 most)
+pub advance-by-none : ticked (advance 0) (needs s1) (unmarked 2 full) ≡ said 0 (unmarked 2 full)
 unfolding shown ticks needs
 advance-by-none = refl
 
