@@ -10,6 +10,7 @@ use lib.Ieee.{Float}
 use Rattle.binary64.specs.Constants.{plusZero}
 use Rattle.stretch.specs.Stretch.{flat, off}
 use Rattle.stretch.specs.SegmentLaws.{flat-snoc, length-flat}
+use Rattle.mesh.specs.Element as element
 use Rattle.laplace.specs.Matrix.{few-entries}
 use Rattle.laplace.specs.Placed.{valuesOf, columnsOf, startsOf, padded}
 use Rattle.conjugate.specs.Solver.{Solve}
@@ -48,7 +49,7 @@ pub few : (c : Content) → Sized c → length (flat (matrixOf c)) ≤ 9 * trian
 unfolding matrixOf
 few c z =
     let e : length (c .triangles) ≡ 3 * triangleCount c = z .triangles in
-    omega (arith, length-flat-count (matrixOf c), few-entries (c .tags) (c .vertices) (c .triangles) (vertexCount c))
+    omega (arith, length-flat-count (matrixOf c), few-entries (c .tags) element.flat (c .vertices) (c .triangles) (vertexCount c))
 
 pub length-kept-values : (c : Content) → Sized c → length (padded (9 * triangleCount c + vertexCount c) plusZero (valuesOf (matrixOf c))) ≡ 9 * triangleCount c + vertexCount c
 length-kept-values c z = length-padded (9 * triangleCount c + vertexCount c) plusZero (valuesOf (matrixOf c)) (omega (arith, few c z, length-values (matrixOf c)))

@@ -15,6 +15,7 @@ use Rattle.stretch.specs.Stretch.{flat}
 use Rattle.sparse.specs.Sparse.{Entry}
 use Rattle.sparse.specs.Scan.{allBelow, risesFrom, rises}
 use Rattle.mesh.specs.Mesh.{noNeighbour}
+use Rattle.mesh.specs.Element as element
 use Rattle.laplace.specs.Assembly.{Push, pushes, row, rows}
 use Rattle.laplace.specs.Matrix.{Below, AllBelow, PushedBelow, row-below, pushes-below}
 use Rattle.laplace.specs.Placed.{columnsIn, columnsOf, startsFrom, startsOf, padded}
@@ -185,7 +186,7 @@ module _ (c : Content) (h : InRange c) (rest : List ℕ) where
   unfolding padded matrixOf
   columns-sound =
       below-append (vertexCount c) (columnsOf (matrixOf c)) (replicate (9 * triangleCount c + vertexCount c - length (columnsOf (matrixOf c))) 0)
-      (columns-below (vertexCount c) (c .tags) (pushes (c .vertices) (c .triangles)) (vertexCount c) (omega arith) (pushes-below (vertexCount c) (c .vertices) (c .triangles) (corners-below .1)))
+      (columns-below (vertexCount c) (c .tags) (pushes element.flat (c .vertices) (c .triangles)) (vertexCount c) (omega arith) (pushes-below (vertexCount c) element.flat (c .vertices) (c .triangles) (corners-below .1)))
       (zeros-below (vertexCount c) (9 * triangleCount c + vertexCount c - length (columnsOf (matrixOf c))) (some-vertex (length (columnsOf (matrixOf c)))))
 
   pub words-sound : wordsSound (planOf c) (wordsOf c rest) ≡ true

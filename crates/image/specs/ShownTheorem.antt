@@ -14,6 +14,7 @@ use Rattle.binary64.specs.Constants.{plusZero}
 use Rattle.stretch.specs.Stretch.{part, off}
 use Rattle.stretch.specs.StretchLaws.{part-all, part-front, part-rest}
 use Rattle.stretch.specs.SegmentLaws.{off-suc, part-seg, part-within}
+use Rattle.mesh.specs.Element.{flat}
 use Rattle.laplace.specs.Assembly.{Push, pushes, row, rows}
 use Rattle.laplace.specs.Matrix.{AllBelow, row-rising, row-below, pushes-below, symmetric, held-row, held-column}
 use Rattle.laplace.specs.Placed.{valuesOf, padded}
@@ -166,12 +167,12 @@ pub matrix-symmetric : (c : Content) → InRange c → Symmetric (vertexCount c)
 unfolding matrixOf
 matrix-symmetric c good =
     let n = vertexCount c in
-    let ps = pushes (c .vertices) (c .triangles) in
+    let ps = pushes flat (c .vertices) (c .triangles) in
     record {
       count = length-rows (c .tags) ps n;
       rising = λ i h. rw (row-of (c .tags) ps n i h) (row-rising (c .tags) ps i);
-      below = λ i h. rw (row-of (c .tags) ps n i h) (row-below n (c .tags) ps i h (pushes-below n (c .vertices) (c .triangles) (all-below n (c .triangles) (good .corners))));
-      transposed = λ i j h k. rw (row-of (c .tags) ps n i h, row-of (c .tags) ps n j k) (symmetric (c .tags) (c .vertices) (c .triangles) i j);
+      below = λ i h. rw (row-of (c .tags) ps n i h) (row-below n (c .tags) ps i h (pushes-below n flat (c .vertices) (c .triangles) (all-below n (c .triangles) (good .corners))));
+      transposed = λ i j h k. rw (row-of (c .tags) ps n i h, row-of (c .tags) ps n j k) (symmetric (c .tags) flat (c .vertices) (c .triangles) i j);
       heldRow = λ i h f. row-of (c .tags) ps n i h ∙ held-row (c .tags) ps i f;
       heldColumn = λ i j h f. rw (row-of (c .tags) ps n i h) (held-column (c .tags) ps i j f);
     }

@@ -257,79 +257,79 @@ module _ (f : List Float) (w : List ℕ) (n t : ℕ) (at : Places) (lf : LaidFlo
             start = ap (λ (x : List ℕ). getD x (at .starts) 0) words₂ ∙ words-start w n t at lw _ _ _ _ _ first₂;
           }
 
-      same-rows : rowsFor f₁ w₂ n t at n ≡ rowsFor f w n t at n
-      same-rows = rw (vertices₁, corners₂, tags₂)
+      same-rows : (flat : Float) → rowsFor flat f₁ w₂ n t at n ≡ rowsFor flat f w n t at n
+      same-rows flat = rw (vertices₁, corners₂, tags₂)
 
       -- after `fill_matrix`
-      module _ (f₂ : List Float) (w₃ : List ℕ) (k : ℕ) (p : RowsPut f₁ w₂ f₂ w₃ at k (rowsFor f₁ w₂ n t at n)) where
-        put : RowsPut f₁ w₂ f₂ w₃ at k (rowsFor f w n t at n)
-        put = rw same-rows at p
+      module _ (flat : Float) (f₂ : List Float) (w₃ : List ℕ) (k : ℕ) (p : RowsPut f₁ w₂ f₂ w₃ at k (rowsFor flat f₁ w₂ n t at n)) where
+        put : RowsPut f₁ w₂ f₂ w₃ at k (rowsFor flat f w n t at n)
+        put = rw (same-rows flat) at p
 
-        few : count (rowsFor f w n t at n) ≤ most n t
-        few = omega (arith, few-entries (tagsIn w n at) (verticesIn f n at) (cornersIn w t at) n, corners-long)
+        few : count (rowsFor flat f w n t at n) ≤ most n t
+        few = omega (arith, few-entries (tagsIn w n at) flat (verticesIn f n at) (cornersIn w t at) n, corners-long)
 
-        floats₂ : f₂ ≡ splice (splice f (at .row) (replicate n plusZero)) (at .values) (padded (most n t) plusZero (valuesOf (rowsFor f w n t at n)))
+        floats₂ : f₂ ≡ splice (splice f (at .row) (replicate n plusZero)) (at .values) (padded (most n t) plusZero (valuesOf (rowsFor flat f w n t at n)))
         floats₂ =
-            let rs = rowsFor f w n t at n in
+            let rs = rowsFor flat f w n t at n in
             put .values ∙ ap (λ (x : List Float). splice x (at .values) (valuesOf rs)) (cl .floats-are)
             ∙ padded-in (splice f (at .row) (replicate n plusZero)) (at .values) (most n t) plusZero (valuesOf rs) (omega (arith, few, length-valuesOf rs))
 
-        starts-long : length (startsFrom 0 (rowsFor f w n t at n)) ≡ suc n
-        starts-long = length-starts 0 (rowsFor f w n t at n) ∙ ap suc (length-rows (tagsIn w n at) (pushesIn f w n t at) n)
+        starts-long : length (startsFrom 0 (rowsFor flat f w n t at n)) ≡ suc n
+        starts-long = length-starts 0 (rowsFor flat f w n t at n) ∙ ap suc (length-rows (tagsIn w n at) (pushesIn flat f w n t at) n)
 
-        columns-long : length (padded (most n t) 0 (columnsOf (rowsFor f w n t at n))) ≡ most n t
-        columns-long = length-padded (most n t) 0 (columnsOf (rowsFor f w n t at n)) (omega (arith, few, length-columnsOf (rowsFor f w n t at n)))
+        columns-long : length (padded (most n t) 0 (columnsOf (rowsFor flat f w n t at n))) ≡ most n t
+        columns-long = length-padded (most n t) 0 (columnsOf (rowsFor flat f w n t at n)) (omega (arith, few, length-columnsOf (rowsFor flat f w n t at n)))
 
-        words₃ : w₃ ≡ wordsOf w at (startsFrom 0 (rowsFor f w n t at n)) (padded (most n t) 0 (columnsOf (rowsFor f w n t at n))) (headsFrom 0 (cornersIn w t at) n) (linksFrom 0 (cornersIn w t at)) (replicate n 0)
+        words₃ : w₃ ≡ wordsOf w at (startsFrom 0 (rowsFor flat f w n t at n)) (padded (most n t) 0 (columnsOf (rowsFor flat f w n t at n))) (headsFrom 0 (cornersIn w t at) n) (linksFrom 0 (cornersIn w t at)) (replicate n 0)
         words₃ =
-            let rs = rowsFor f w n t at n in
+            let rs = rowsFor flat f w n t at n in
             let s = startsFrom 0 rs in
             let c = columnsOf rs in
             put .columns ∙ ap (λ (x : List ℕ). splice (splice x (at .starts) s) (at .cols) c) words₂
             ∙ ap (λ (x : List ℕ). splice x (at .cols) c) (over-starts w n t at lw _ _ _ _ _ first₂ s (omega (arith, starts-long)) (omega (arith, starts-long)))
             ∙ over-cols w n t at lw _ _ _ _ _ (sizes₂ s (replicate (most n t) 0) (omega (arith, starts-long)) (omega (arith, starts-long)) (length-replicate (most n t) 0)) refl c (omega (arith, few, length-columnsOf rs))
 
-        sizes₃ : Sizes n t (startsFrom 0 (rowsFor f w n t at n)) (padded (most n t) 0 (columnsOf (rowsFor f w n t at n))) (headsFrom 0 (cornersIn w t at) n) (linksFrom 0 (cornersIn w t at)) (replicate n 0)
-        sizes₃ = sizes₂ (startsFrom 0 (rowsFor f w n t at n)) (padded (most n t) 0 (columnsOf (rowsFor f w n t at n))) (omega (arith, starts-long)) (omega (arith, starts-long)) columns-long
+        sizes₃ : Sizes n t (startsFrom 0 (rowsFor flat f w n t at n)) (padded (most n t) 0 (columnsOf (rowsFor flat f w n t at n))) (headsFrom 0 (cornersIn w t at) n) (linksFrom 0 (cornersIn w t at)) (replicate n 0)
+        sizes₃ = sizes₂ (startsFrom 0 (rowsFor flat f w n t at n)) (padded (most n t) 0 (columnsOf (rowsFor flat f w n t at n))) (omega (arith, starts-long)) (omega (arith, starts-long)) columns-long
 
         pub unlink-laid : LaidWords w₃ n t at
         unlink-laid = rw words₃ (words-laid w n t at lw _ _ _ _ _ sizes₃)
 
         -- after `unlink`
         module _ (w₄ : List ℕ) (e₄ : w₄ ≡ splice (splice w₃ (at .heads) (replicate n 0)) (at .links) (replicate (3 * t) 0)) where
-          words₄ : w₄ ≡ wordsOf w at (startsFrom 0 (rowsFor f w n t at n)) (padded (most n t) 0 (columnsOf (rowsFor f w n t at n))) (replicate n 0) (replicate (3 * t) 0) (replicate n 0)
+          words₄ : w₄ ≡ wordsOf w at (startsFrom 0 (rowsFor flat f w n t at n)) (padded (most n t) 0 (columnsOf (rowsFor flat f w n t at n))) (replicate n 0) (replicate (3 * t) 0) (replicate n 0)
           words₄ =
-              let s = startsFrom 0 (rowsFor f w n t at n) in
-              let c = padded (most n t) 0 (columnsOf (rowsFor f w n t at n)) in
+              let s = startsFrom 0 (rowsFor flat f w n t at n) in
+              let c = padded (most n t) 0 (columnsOf (rowsFor flat f w n t at n)) in
               let y = sizes s c (replicate n 0) (linksFrom 0 (cornersIn w t at)) (sizes₃ .starts) (sizes₃ .some) columns-long (length-replicate n 0) (sizes₃ .links) in
               e₄ ∙ ap (λ (x : List ℕ). splice (splice x (at .heads) (replicate n 0)) (at .links) (replicate (3 * t) 0)) words₃
               ∙ ap (λ (x : List ℕ). splice x (at .links) (replicate (3 * t) 0)) (over-heads w n t at lw _ _ _ _ _ sizes₃ (replicate n 0) (length-replicate n 0))
               ∙ over-links w n t at lw _ _ _ _ _ y (replicate (3 * t) 0) (length-replicate (3 * t) 0)
 
-          sizes₄ : Sizes n t (startsFrom 0 (rowsFor f w n t at n)) (padded (most n t) 0 (columnsOf (rowsFor f w n t at n))) (replicate n 0) (replicate (3 * t) 0) (replicate n 0)
-          sizes₄ = sizes (startsFrom 0 (rowsFor f w n t at n)) (padded (most n t) 0 (columnsOf (rowsFor f w n t at n))) (replicate n 0) (replicate (3 * t) 0) (sizes₃ .starts) (sizes₃ .some) columns-long (length-replicate n 0) (length-replicate (3 * t) 0)
+          sizes₄ : Sizes n t (startsFrom 0 (rowsFor flat f w n t at n)) (padded (most n t) 0 (columnsOf (rowsFor flat f w n t at n))) (replicate n 0) (replicate (3 * t) 0) (replicate n 0)
+          sizes₄ = sizes (startsFrom 0 (rowsFor flat f w n t at n)) (padded (most n t) 0 (columnsOf (rowsFor flat f w n t at n))) (replicate n 0) (replicate (3 * t) 0) (sizes₃ .starts) (sizes₃ .some) columns-long (length-replicate n 0) (length-replicate (3 * t) 0)
 
           vertices₂ : verticesIn f₂ n at ≡ verticesIn f n at
           vertices₂ =
-              ap (λ (x : List Float). part x (at .vertices) (2 * n)) (put .values) ∙ part-splice-before f₁ (at .values) (valuesOf (rowsFor f w n t at n)) (at .vertices) (2 * n) (omega (arith, lf)) ∙ vertices₁
+              ap (λ (x : List Float). part x (at .vertices) (2 * n)) (put .values) ∙ part-splice-before f₁ (at .values) (valuesOf (rowsFor flat f w n t at n)) (at .vertices) (2 * n) (omega (arith, lf)) ∙ vertices₁
 
           floats₂-long : length f₂ ≡ length f
-          floats₂-long = ap length (put .values) ∙ length-splice f₁ (at .values) (valuesOf (rowsFor f w n t at n)) ∙ floats₁-long
+          floats₂-long = ap length (put .values) ∙ length-splice f₁ (at .values) (valuesOf (rowsFor flat f w n t at n)) ∙ floats₁-long
 
           pub right-laid : LaidFloats f₂ n t at × LaidWords w₄ n t at
           right-laid = (record { vertices = lf .vertices; right = lf .right; row = lf .row; values = rw floats₂-long (lf .values) }, rw words₄ (words-laid w n t at lw _ _ _ _ _ sizes₄))
 
           -- after `right_side`
-          pub assembled : (f₃ : List Float) → Wrote f₂ f₃ (at .right) n (rightSide heldValue (tagsIn w₄ n at) (pushesIn f₂ w₄ n t at) n)
-              → Assembled f w f₃ w₄ n t at k (rowsFor f w n t at n) (rightSide heldValue (tagsIn w n at) (pushesIn f w n t at) n)
+          pub assembled : (f₃ : List Float) → Wrote f₂ f₃ (at .right) n (rightSide heldValue (tagsIn w₄ n at) (pushesIn flat f₂ w₄ n t at) n)
+              → Assembled f w f₃ w₄ n t at k (rowsFor flat f w n t at n) (rightSide heldValue (tagsIn w n at) (pushesIn flat f w n t at) n)
           unfolding wordsOf
           assembled f₃ u =
               let tags₄ : tagsIn w₄ n at ≡ tagsIn w n at = rw words₄ (words-before w n t at lw _ _ _ _ _ sizes₄ (at .tags) n (omega (arith, lw))) in
               let corners₄ : cornersIn w₄ t at ≡ cornersIn w t at = rw words₄ (words-before w n t at lw _ _ _ _ _ sizes₄ (at .triangles) (3 * t) (omega (arith, lw))) in
-              let rhs = rightSide heldValue (tagsIn w n at) (pushesIn f w n t at) n in
+              let rhs = rightSide heldValue (tagsIn w n at) (pushesIn flat f w n t at) n in
               let v : Wrote f₂ f₃ (at .right) n rhs = rw (tags₄, corners₄, vertices₂) at u in
               let x = splice f (at .row) (replicate n plusZero) in
-              let m = padded (most n t) plusZero (valuesOf (rowsFor f w n t at n)) in
+              let m = padded (most n t) plusZero (valuesOf (rowsFor flat f w n t at n)) in
               record {
                 total = put .total;
                 floats-are =

@@ -57,9 +57,9 @@ unfolding triangleOf
 triangle-within n ts q b h = record { i = below-at n ts (3 * q) b (omega arith); j = below-at n ts (3 * q + 1) b (omega arith); k = below-at n ts (3 * q + 2) b h }
 
 -- a triangle's pushes by its stiffness
-pub triangle-pushes : (vs : List Float) (q : Triangle)
-    → trianglePushes vs (q .i) (q .j) (q .k)
-    ≡ pick (stiffIn vs q .skipped) []
-    (nine (q .i) (q .j) (q .k) (stiffIn vs q .ii) (stiffIn vs q .ij) (stiffIn vs q .ik) (stiffIn vs q .jj) (stiffIn vs q .jk) (stiffIn vs q .kk))
+pub triangle-pushes : (flat : Float) (vs : List Float) (q : Triangle)
+    → trianglePushes flat vs (q .i) (q .j) (q .k)
+    ≡ pick (stiffIn flat vs q .skipped) []
+    (nine (q .i) (q .j) (q .k) (stiffIn flat vs q .ii) (stiffIn flat vs q .ij) (stiffIn flat vs q .ik) (stiffIn flat vs q .jj) (stiffIn flat vs q .jk) (stiffIn flat vs q .kk))
 unfolding trianglePushes stiffIn
-triangle-pushes vs q = refl
+triangle-pushes flat vs q = refl

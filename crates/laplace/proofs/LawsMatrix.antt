@@ -24,25 +24,25 @@ use Rattle.laplace.proofs.LawsPlaced.{length-valuesOf, length-columnsOf
 
 -- ---- one row
 
-tidy-row : (n : ℕ) (tags : List ℕ) (vs : List Float) (ts : List ℕ) (r : ℕ) → r < n → AllBelow n ts → Tidy n (row tags (pushes vs ts) r)
-tidy-row n tags vs ts r h b = record { rising = row-rising tags (pushes vs ts) r; below = row-below n tags (pushes vs ts) r h (pushes-below n vs ts b) }
+tidy-row : (n : ℕ) (tags : List ℕ) (flat : Float) (vs : List Float) (ts : List ℕ) (r : ℕ) → r < n → AllBelow n ts → Tidy n (row tags (pushes flat vs ts) r)
+tidy-row n tags flat vs ts r h b = record { rising = row-rising tags (pushes flat vs ts) r; below = row-below n tags (pushes flat vs ts) r h (pushes-below n flat vs ts b) }
 
 module _ (f : List Float) (w : List ℕ) (n t : ℕ) (at : Places) (y : Ready f w n t at) where
   pub row-starts : Building f w n t at 0
   unfolding entries
   row-starts = record { floats-laid = y .floats-laid; words-laid = y .words-laid; within = omega arith; tidy = rw (part-zero w (at .rowcols)) (tidy-none n) }
 
-  module _ (r count : ℕ) (h : r < n) (m : count + length (rowFor f w n t at r) ≤ 9 * t + n) (f₁ : List Float) (w₁ : List ℕ) (k : ℕ)
-      (a : Written f w f₁ w₁ (at .row) (at .rowcols) k (rowFor f w n t at r)) where
+  module _ (flat : Float) (r count : ℕ) (h : r < n) (m : count + length (rowFor flat f w n t at r) ≤ 9 * t + n) (f₁ : List Float) (w₁ : List ℕ) (k : ℕ)
+      (a : Written f w f₁ w₁ (at .row) (at .rowcols) k (rowFor flat f w n t at r)) where
     pub row-appends : Appends f₁ w₁ n t at k count
     row-appends =
-        let b = building-on f w n t at 0 row-starts f₁ w₁ k (rowFor f w n t at r) a (tidy-row n (tagsIn w n at) (verticesIn f n at) (cornersIn w t at) r h (y .words-laid .corners)) in
+        let b = building-on f w n t at 0 row-starts f₁ w₁ k (rowFor flat f w n t at r) a (tidy-row n (tagsIn w n at) flat (verticesIn f n at) (cornersIn w t at) r h (y .words-laid .corners)) in
         record { floats-laid = b .floats-laid; words-laid = b .words-laid; within = b .within; room = omega (arith, a .count) }
 
     pub row-put : (f₂ : List Float) (w₂ : List ℕ) → Appended f₁ w₁ f₂ w₂ at k count
-        → RowPut f w f₂ (set w₂ (at .starts + r + 1) (count + k)) at r count (count + k) (rowFor f w n t at r)
+        → RowPut f w f₂ (set w₂ (at .starts + r + 1) (count + k)) at r count (count + k) (rowFor flat f w n t at r)
     row-put f₂ w₂ p =
-        let es = rowFor f w n t at r in
+        let es = rowFor flat f w n t at r in
         let lk : k ≤ n = row-appends .within in
         let lv : length (valuesIn es) ≡ k = length-values es ∙ sym (a .count) in
         let lc : length (columnsIn es) ≡ k = length-columns es ∙ sym (a .count) in
@@ -99,26 +99,27 @@ module _ (f : List Float) (w : List ℕ) (n t : ℕ) (at : Places) (y : Ready f 
         start = k .start;
       }
 
+module _ (f : List Float) (w : List ℕ) (n t : ℕ) (at : Places) (flat : Float) (y : Ready f w n t at) where
   -- the first i rows have few entries
-  rows-few : (i : ℕ) → i ≤ n → count (rowsFor f w n t at i) ≤ 9 * t + n
+  rows-few : (i : ℕ) → i ≤ n → count (rowsFor flat f w n t at i) ≤ 9 * t + n
   rows-few i h =
       let l : length (cornersIn w t at) ≡ 3 * t = length-part w (at .triangles) (3 * t) (omega (arith, y .words-laid)) in
-      omega (arith, few-entries (tagsIn w n at) (verticesIn f n at) (cornersIn w t at) i)
+      omega (arith, few-entries (tagsIn w n at) flat (verticesIn f n at) (cornersIn w t at) i)
 
-  count-next : (i : ℕ) → count (rowsFor f w n t at (suc i)) ≡ count (rowsFor f w n t at i) + length (rowFor f w n t at i)
+  count-next : (i : ℕ) → count (rowsFor flat f w n t at (suc i)) ≡ count (rowsFor flat f w n t at i) + length (rowFor flat f w n t at i)
   unfolding rows count
-  count-next i = omega (arith, count-append (rowsFor f w n t at i) (rowFor f w n t at i ∷ []))
+  count-next i = omega (arith, count-append (rowsFor flat f w n t at i) (rowFor flat f w n t at i ∷ []))
 
-  pub rows-kept : (i : ℕ) → i ≤ n → (f′ : List Float) (w′ : List ℕ) (k : ℕ) → RowsPut f w f′ w′ at k (rowsFor f w n t at i) → Kept f w f′ w′ n t at
+  pub rows-kept : (i : ℕ) → i ≤ n → (f′ : List Float) (w′ : List ℕ) (k : ℕ) → RowsPut f w f′ w′ at k (rowsFor flat f w n t at i) → Kept f w f′ w′ n t at
   rows-kept i h f′ w′ k p =
-      let rs = rowsFor f w n t at i in
+      let rs = rowsFor flat f w n t at i in
       let v = valuesOf rs in
       let c = columnsOf rs in
       let s = startsFrom 0 rs in
       let u = splice w (at .starts) s in
       let few : count rs ≤ 9 * t + n = rows-few i h in
       let lc : length c ≡ count rs = length-columnsOf rs in
-      let ls : length s ≡ suc i = length-starts 0 rs ∙ ap suc (length-rows (tagsIn w n at) (pushesIn f w n t at) i) in
+      let ls : length s ≡ suc i = length-starts 0 rs ∙ ap suc (length-rows (tagsIn w n at) (pushesIn flat f w n t at) i) in
       let fl = y .floats-laid in
       let wl = y .words-laid in
       let before : (b m : ℕ) → b + m ≤ at .starts → part w′ b m ≡ part w b m =
@@ -143,7 +144,7 @@ module _ (f : List Float) (w : List ℕ) (n t : ℕ) (at : Places) (y : Ready f 
             ∙ rw first at (getD-splice-at w (at .starts) s 0 0 (omega arith) (omega arith)) ∙ starts-head 0 rs;
       }
 
-  pub rows-none : RowsPut f w f w at 0 (rowsFor f w n t at 0)
+  pub rows-none : RowsPut f w f w at 0 (rowsFor flat f w n t at 0)
   unfolding rows count valuesOf columnsOf startsFrom
   rows-none =
       record {
@@ -152,28 +153,28 @@ module _ (f : List Float) (w : List ℕ) (n t : ℕ) (at : Places) (y : Ready f 
         columns = rw (splice-nil, splice-one w (at .starts) 0) (sym (set-getD w (at .starts) 0) ∙ ap (λ (x : ℕ). set w (at .starts) x) (y .start));
       }
 
-  module _ (i : ℕ) (h : i < n) (f₁ : List Float) (w₁ : List ℕ) (k : ℕ) (p : RowsPut f w f₁ w₁ at k (rowsFor f w n t at i)) where
+  module _ (i : ℕ) (h : i < n) (f₁ : List Float) (w₁ : List ℕ) (k : ℕ) (p : RowsPut f w f₁ w₁ at k (rowsFor flat f w n t at i)) where
     kept : Kept f w f₁ w₁ n t at
     kept = rows-kept i (omega arith) f₁ w₁ k p
 
-    same-row : rowFor f₁ w₁ n t at i ≡ rowFor f w n t at i
+    same-row : rowFor flat f₁ w₁ n t at i ≡ rowFor flat f w n t at i
     same-row = rw (kept .vertices, kept .corners, kept .tags)
 
-    pub row-ready : Ready f₁ w₁ n t at × (i < n) × (k + length (rowFor f₁ w₁ n t at i) ≤ 9 * t + n)
-    row-ready = (ready-kept f₁ w₁ kept, h, rw same-row (omega (arith, p .total, count-next i, rows-few (suc i) (omega arith))))
+    pub row-ready : Ready f₁ w₁ n t at × (i < n) × (k + length (rowFor flat f₁ w₁ n t at i) ≤ 9 * t + n)
+    row-ready = (ready-kept f w n t at y f₁ w₁ kept, h, rw same-row (omega (arith, p .total, count-next i, rows-few (suc i) (omega arith))))
 
-    pub rows-again : (f₂ : List Float) (w₂ : List ℕ) (e : ℕ) → RowPut f₁ w₁ f₂ w₂ at i k e (rowFor f₁ w₁ n t at i) → RowsPut f w f₂ w₂ at e (rowsFor f w n t at (i + 1))
+    pub rows-again : (f₂ : List Float) (w₂ : List ℕ) (e : ℕ) → RowPut f₁ w₁ f₂ w₂ at i k e (rowFor flat f₁ w₁ n t at i) → RowsPut f w f₂ w₂ at e (rowsFor flat f w n t at (i + 1))
     unfolding rows
     rows-again f₂ w₂ e q =
-        let rs = rowsFor f w n t at i in
-        let es = rowFor f w n t at i in
+        let rs = rowsFor flat f w n t at i in
+        let es = rowFor flat f w n t at i in
         let v = valuesOf rs in
         let c = columnsOf rs in
         let s = startsFrom 0 rs in
         let x = 0 + count rs + length es in
         let lv : length v ≡ k = length-valuesOf rs ∙ sym (p .total) in
         let lc : length c ≡ k = length-columnsOf rs ∙ sym (p .total) in
-        let ls : length s ≡ suc i = length-starts 0 rs ∙ ap suc (length-rows (tagsIn w n at) (pushesIn f w n t at) i) in
+        let ls : length s ≡ suc i = length-starts 0 rs ∙ ap suc (length-rows (tagsIn w n at) (pushesIn flat f w n t at) i) in
         let wl = y .words-laid in
         let q′ : RowPut f₁ w₁ f₂ w₂ at i k e es = rw same-row at q in
         let xe : k + length es ≡ x = omega (arith, p .total) in
@@ -197,5 +198,5 @@ module _ (f : List Float) (w : List ℕ) (n t : ℕ) (at : Places) (y : Ready f 
               ∙ ap (λ (l : List ℕ). splice (splice w (at .starts) (startsFrom 0 (rs ++ (es ∷ [])))) (at .cols) l) (sym (columns-snoc rs es));
         }
 
-  pub rows-done : (f′ : List Float) (w′ : List ℕ) (k i : ℕ) → i ≡ n → RowsPut f w f′ w′ at k (rowsFor f w n t at i) → RowsPut f w f′ w′ at k (rowsFor f w n t at n)
+  pub rows-done : (f′ : List Float) (w′ : List ℕ) (k i : ℕ) → i ≡ n → RowsPut f w f′ w′ at k (rowsFor flat f w n t at i) → RowsPut f w f′ w′ at k (rowsFor flat f w n t at n)
   rows-done f′ w′ k i e p = rw e at p

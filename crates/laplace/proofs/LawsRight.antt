@@ -184,11 +184,11 @@ free-coupled f w n right at c q s y =
 -- ---- all triangles
 
 -- after i of them
-pub record Coupling (f₀ f : List Float) (w : List ℕ) (n t : ℕ) (at : Places) (i : ℕ) : Type 0 where
+pub record Coupling (f₀ f : List Float) (w : List ℕ) (n t : ℕ) (at : Places) (flat : Float) (i : ℕ) : Type 0 where
   pub within : i ≤ t
   pub wrote : Wrote f₀ f (at .right) n (part f (at .right) n)
-  pub rest : allCoupled heldValue (tagsIn w n at) (pushes (verticesIn f₀ n at) (drop (3 * i) (cornersIn w t at))) (part f (at .right) n)
-      ≡ allCoupled heldValue (tagsIn w n at) (pushes (verticesIn f₀ n at) (cornersIn w t at)) (part f₀ (at .right) n)
+  pub rest : allCoupled heldValue (tagsIn w n at) (pushes flat (verticesIn f₀ n at) (drop (3 * i) (cornersIn w t at))) (part f (at .right) n)
+      ≡ allCoupled heldValue (tagsIn w n at) (pushes flat (verticesIn f₀ n at) (cornersIn w t at)) (part f₀ (at .right) n)
 
 three-off : (ts : List ℕ) (i : ℕ) → 3 * i + 2 < length ts → (let q = triangleOf ts i in drop (3 * i) ts ≡ q .i ∷ q .j ∷ q .k ∷ drop (3 * (i + 1)) ts)
 unfolding triangleOf
@@ -202,8 +202,8 @@ three-off ts i h =
     ∙ ap (λ (x : List ℕ). getD ts (3 * i + 1) 0 ∷ x)
     (ap (λ (x : ℕ). drop x ts) b ∙ drop-cons ts (3 * i + 2) 0 h ∙ ap (λ (x : ℕ). getD ts (3 * i + 2) 0 ∷ drop x ts) c))
 
-module _ (f₀ : List Float) (w : List ℕ) (n t : ℕ) (at : Places) (lf : LaidFloats f₀ n t at) (lw : LaidWords w n t at) where
-  pub coupling-none : Coupling f₀ f₀ w n t at 0
+module _ (f₀ : List Float) (w : List ℕ) (n t : ℕ) (at : Places) (flat : Float) (lf : LaidFloats f₀ n t at) (lw : LaidWords w n t at) where
+  pub coupling-none : Coupling f₀ f₀ w n t at flat 0
   coupling-none =
       record {
         within = omega arith;
@@ -211,7 +211,7 @@ module _ (f₀ : List Float) (w : List ℕ) (n t : ℕ) (at : Places) (lf : Laid
         rest = refl;
       }
 
-  module _ (f : List Float) (i : ℕ) (s : Coupling f₀ f w n t at i) where
+  module _ (f : List Float) (i : ℕ) (s : Coupling f₀ f w n t at flat i) where
     pub coupling-long : length f ≡ length f₀
     coupling-long = as-long (s .wrote)
 
@@ -221,8 +221,8 @@ module _ (f₀ : List Float) (w : List ℕ) (n t : ℕ) (at : Places) (lf : Laid
     same-vertices : verticesIn f n at ≡ verticesIn f₀ n at
     same-vertices = kept-before (s .wrote) (at .vertices) (2 * n) (omega (arith, lf))
 
-    pub coupling-again : i < t → (q : Triangle) (x : Stiff) → q ≡ triangleOf (cornersIn w t at) i → x ≡ stiffIn (verticesIn f n at) q → (f′ : List Float)
-        → Wrote f f′ (at .right) n (allCoupled heldValue (tagsIn w n at) (stiffPushes q x) (part f (at .right) n)) → Coupling f₀ f′ w n t at (i + 1)
+    pub coupling-again : i < t → (q : Triangle) (x : Stiff) → q ≡ triangleOf (cornersIn w t at) i → x ≡ stiffIn flat (verticesIn f n at) q → (f′ : List Float)
+        → Wrote f f′ (at .right) n (allCoupled heldValue (tagsIn w n at) (stiffPushes q x) (part f (at .right) n)) → Coupling f₀ f′ w n t at flat (i + 1)
     unfolding pushes stiffPushes
     coupling-again h q x eq ex f′ u =
         let tags = tagsIn w n at in
@@ -231,17 +231,17 @@ module _ (f₀ : List Float) (w : List ℕ) (n t : ℕ) (at : Places) (lf : Laid
         let rhs = part f (at .right) n in
         let long : length ts ≡ 3 * t = length-part w (at .triangles) (3 * t) (omega (arith, lw)) in
         let d : drop (3 * i) ts ≡ q .i ∷ q .j ∷ q .k ∷ drop (3 * (i + 1)) ts = rw (← eq) at (three-off ts i (omega arith)) in
-        let p : trianglePushes vs (q .i) (q .j) (q .k) ≡ stiffPushes q x = triangle-pushes vs q ∙ rw (← same-vertices, ← ex) in
-        let e : allCoupled heldValue tags (pushes vs (drop (3 * i) ts)) rhs ≡ allCoupled heldValue tags (pushes vs (drop (3 * (i + 1)) ts)) (allCoupled heldValue tags (stiffPushes q x) rhs) =
-        ap (λ (l : List ℕ). allCoupled heldValue tags (pushes vs l) rhs) d ∙ all-append tags (trianglePushes vs (q .i) (q .j) (q .k)) (pushes vs (drop (3 * (i + 1)) ts)) rhs
-        ∙ ap (λ (l : List Push). allCoupled heldValue tags (pushes vs (drop (3 * (i + 1)) ts)) (allCoupled heldValue tags l rhs)) p in
+        let p : trianglePushes flat vs (q .i) (q .j) (q .k) ≡ stiffPushes q x = triangle-pushes flat vs q ∙ rw (← same-vertices, ← ex) in
+        let e : allCoupled heldValue tags (pushes flat vs (drop (3 * i) ts)) rhs ≡ allCoupled heldValue tags (pushes flat vs (drop (3 * (i + 1)) ts)) (allCoupled heldValue tags (stiffPushes q x) rhs) =
+        ap (λ (l : List ℕ). allCoupled heldValue tags (pushes flat vs l) rhs) d ∙ all-append tags (trianglePushes flat vs (q .i) (q .j) (q .k)) (pushes flat vs (drop (3 * (i + 1)) ts)) rhs
+        ∙ ap (λ (l : List Push). allCoupled heldValue tags (pushes flat vs (drop (3 * (i + 1)) ts)) (allCoupled heldValue tags l rhs)) p in
         record {
           within = omega arith;
           wrote = rw (← (got u)) at (wrote-then (s .wrote) u);
-          rest = ap (λ (l : List Float). allCoupled heldValue tags (pushes vs (drop (3 * (i + 1)) ts)) l) (got u) ∙ sym e ∙ s .rest;
+          rest = ap (λ (l : List Float). allCoupled heldValue tags (pushes flat vs (drop (3 * (i + 1)) ts)) l) (got u) ∙ sym e ∙ s .rest;
         }
 
-    pub coupling-done : i ≡ t → Wrote f₀ f (at .right) n (allCoupled heldValue (tagsIn w n at) (pushes (verticesIn f₀ n at) (cornersIn w t at)) (part f₀ (at .right) n))
+    pub coupling-done : i ≡ t → Wrote f₀ f (at .right) n (allCoupled heldValue (tagsIn w n at) (pushes flat (verticesIn f₀ n at) (cornersIn w t at)) (part f₀ (at .right) n))
     unfolding pushes allCoupled
     coupling-done e =
         let ts = cornersIn w t at in
@@ -303,8 +303,8 @@ module _ (f : List Float) (w : List ℕ) (n t : ℕ) (at : Places) (lf : LaidFlo
     pub zeros-laid : LaidFloats f₁ n t at
     zeros-laid = record { vertices = lf .vertices; right = lf .right; row = lf .row; values = rw (as-long (zeros-wrote f₁ e)) (lf .values) }
 
-    module _ (f₂ : List Float) (u : Wrote f₁ f₂ (at .right) n (allCoupled heldValue (tagsIn w n at) (pushes (verticesIn f₁ n at) (cornersIn w t at)) (part f₁ (at .right) n))) where
-      all-coupled : Wrote f f₂ (at .right) n (allCoupled heldValue (tagsIn w n at) (pushes (verticesIn f n at) (cornersIn w t at)) (replicate n plusZero))
+    module _ (flat : Float) (f₂ : List Float) (u : Wrote f₁ f₂ (at .right) n (allCoupled heldValue (tagsIn w n at) (pushes flat (verticesIn f₁ n at) (cornersIn w t at)) (part f₁ (at .right) n))) where
+      all-coupled : Wrote f f₂ (at .right) n (allCoupled heldValue (tagsIn w n at) (pushes flat (verticesIn f n at) (cornersIn w t at)) (replicate n plusZero))
       all-coupled =
           let z = zeros-wrote f₁ e in
           let v : verticesIn f₁ n at ≡ verticesIn f n at = kept-before z (at .vertices) (2 * n) (omega (arith, lf)) in
@@ -314,6 +314,6 @@ module _ (f : List Float) (w : List ℕ) (n t : ℕ) (at : Places) (lf : LaidFlo
       all-couples = record { floats-fit = omega (arith, lf, as-long all-coupled); words-fit = omega (arith, lw) }
 
       pub right-wrote : (f₃ : List Float) → Wrote f₂ f₃ (at .right) n (settled heldValue (tagsIn w n at) (part f₂ (at .right) n))
-          → Wrote f f₃ (at .right) n (rightSide heldValue (tagsIn w n at) (pushes (verticesIn f n at) (cornersIn w t at)) n)
+          → Wrote f f₃ (at .right) n (rightSide heldValue (tagsIn w n at) (pushes flat (verticesIn f n at) (cornersIn w t at)) n)
       unfolding rightSide
       right-wrote f₃ x = wrote-then all-coupled (rw (got all-coupled) at x)

@@ -138,22 +138,22 @@ module _ (n : ℕ) (tags : List ℕ) where
       let b = placed tags (q .j) (s .j) a in
       omega (arith, placed-longer (q .i) (s .i) es, placed-longer (q .j) (s .j) a, placed-longer (q .k) (s .k) b)
 
-  module _ (vs : List Float) (q : Triangle) (e : ℕ) (es : List Entry) where
-    pub tidy-by : Within n q → Tidy n es → Tidy n (addedBy tags vs q e es)
+  module _ (flat : Float) (vs : List Float) (q : Triangle) (e : ℕ) (es : List Entry) where
+    pub tidy-by : Within n q → Tidy n es → Tidy n (addedBy tags flat vs q e es)
     unfolding addedBy
-    tidy-by h t = go (stiffIn vs q .skipped)
+    tidy-by h t = go (stiffIn flat vs q .skipped)
       where
-        go : (b : Bool) → Tidy n (pick b es (threePlaced tags q (sideOf (stiffIn vs q) e) es))
+        go : (b : Bool) → Tidy n (pick b es (threePlaced tags q (sideOf (stiffIn flat vs q) e) es))
         go true = t
-        go false = tidy-three q (sideOf (stiffIn vs q) e) es h t
+        go false = tidy-three q (sideOf (stiffIn flat vs q) e) es h t
 
-    pub by-longer : length es ≤ length (addedBy tags vs q e es)
+    pub by-longer : length es ≤ length (addedBy tags flat vs q e es)
     unfolding addedBy
-    by-longer = go (stiffIn vs q .skipped)
+    by-longer = go (stiffIn flat vs q .skipped)
       where
-        go : (b : Bool) → length es ≤ length (pick b es (threePlaced tags q (sideOf (stiffIn vs q) e) es))
+        go : (b : Bool) → length es ≤ length (pick b es (threePlaced tags q (sideOf (stiffIn flat vs q) e) es))
         go true = le-refl (length es)
-        go false = three-longer q (sideOf (stiffIn vs q) e) es
+        go false = three-longer q (sideOf (stiffIn flat vs q) e) es
 
 -- ---- the row buffer
 
@@ -190,23 +190,23 @@ module _ (f : List Float) (w : List ℕ) (n t : ℕ) (at : Places) (k : ℕ) (b 
       rw (tag-read r h, ne-eqb (getD w (at .tags + r) 0) 0 e) record { count = refl; values = sym (splice-one f (at .row) one); columns = sym (splice-one w (at .rowcols) r) }
 
   -- a corner's entries: none where its triangle is skipped
-  module _ (c : ℕ) (q : Triangle) (s : Stiff) (e : q ≡ triangleOf (cornersIn w t at) (c / 3)) (d : s ≡ stiffIn (verticesIn f n at) q) where
-    pub written-skipped : s .skipped ≡ true → Written f w f w (at .row) (at .rowcols) k (added (tagsIn w n at) (verticesIn f n at) (cornersIn w t at) c (rowIn f w at k))
+  module _ (flat : Float) (c : ℕ) (q : Triangle) (s : Stiff) (e : q ≡ triangleOf (cornersIn w t at) (c / 3)) (d : s ≡ stiffIn flat (verticesIn f n at) q) where
+    pub written-skipped : s .skipped ≡ true → Written f w f w (at .row) (at .rowcols) k (added (tagsIn w n at) flat (verticesIn f n at) (cornersIn w t at) c (rowIn f w at k))
     unfolding added addedBy
     written-skipped y = rw (← e, ← d, y) (written-none f w (at .row) (at .rowcols) k (omega (arith, b)) (omega (arith, b)))
 
     pub written-corner : s .skipped ≡ false → (f′ : List Float) (w′ : List ℕ) (k′ : ℕ) (x : Side) → x ≡ sideOf s (c % 3)
         → Written f w f′ w′ (at .row) (at .rowcols) k′ (threePlaced (tagsIn w n at) q x (rowIn f w at k))
-        → Written f w f′ w′ (at .row) (at .rowcols) k′ (added (tagsIn w n at) (verticesIn f n at) (cornersIn w t at) c (rowIn f w at k))
+        → Written f w f′ w′ (at .row) (at .rowcols) k′ (added (tagsIn w n at) flat (verticesIn f n at) (cornersIn w t at) c (rowIn f w at k))
     unfolding added addedBy
     written-corner y f′ w′ k′ x g r =
         let tags = tagsIn w n at in
         let vs = verticesIn f n at in
         let es = rowIn f w at k in
-        let v : stiffIn vs q .skipped ≡ false = rw d at y in
-        let u : threePlaced tags q x es ≡ addedBy tags vs q (c % 3) es =
+        let v : stiffIn flat vs q .skipped ≡ false = rw d at y in
+        let u : threePlaced tags q x es ≡ addedBy tags flat vs q (c % 3) es =
         ap (λ (z : Side). threePlaced tags q z es) (g ∙ ap (λ (z : Stiff). sideOf z (c % 3)) d) ∙ rw v in
-        rw (u ∙ ap (λ (z : Triangle). addedBy tags vs z (c % 3) es) e) at r
+        rw (u ∙ ap (λ (z : Triangle). addedBy tags flat vs z (c % 3) es) e) at r
 
   module _ (f′ : List Float) (w′ : List ℕ) (k′ : ℕ) (es : List Entry) (r : Written f w f′ w′ (at .row) (at .rowcols) k′ es) where
     pub tags-stay : tagsIn w′ n at ≡ tagsIn w n at

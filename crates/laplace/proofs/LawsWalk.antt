@@ -30,15 +30,15 @@ use Rattle.laplace.proofs.LawsRow.{written-then, words-before, tidy-non
 
 -- ---- the walk, over the corners cs, which are numbered from k
 
-unfoldable pub walked : List ℕ → List Float → List ℕ → ℕ → ℕ → List ℕ → List Entry → List Entry
-walked tags vs ts r k [] es = es
-walked tags vs ts r k (x ∷ cs) es = walked tags vs ts r (suc k) cs (pick (eqb x r) (added tags vs ts k es) es)
+unfoldable pub walked : List ℕ → Float → List Float → List ℕ → ℕ → ℕ → List ℕ → List Entry → List Entry
+walked tags flat vs ts r k [] es = es
+walked tags flat vs ts r k (x ∷ cs) es = walked tags flat vs ts r (suc k) cs (pick (eqb x r) (added tags flat vs ts k es) es)
 
 -- from the corner with the number c - 1 on, and nothing for 0
-unfoldable pub follow : List ℕ → List Float → List ℕ → ℕ → ℕ → List Entry → List Entry
+unfoldable pub follow : List ℕ → Float → List Float → List ℕ → ℕ → ℕ → List Entry → List Entry
 unfolding walked
-follow tags vs ts r zero es = es
-follow tags vs ts r (suc k) es = walked tags vs ts r (suc k) (drop (suc k) ts) (added tags vs ts k es)
+follow tags flat vs ts r zero es = es
+follow tags flat vs ts r (suc k) es = walked tags flat vs ts r (suc k) (drop (suc k) ts) (added tags flat vs ts k es)
 
 drop-next : (ts : List ℕ) (k x : ℕ) (cs : List ℕ) → drop k ts ≡ x ∷ cs → drop (suc k) ts ≡ cs
 drop-next ts k x cs e = ap (λ (i : ℕ). drop i ts) (sym (add-one k)) ∙ sym (drop-drop 1 k ts) ∙ ap (λ (l : List ℕ). drop 1 l) e
@@ -47,22 +47,22 @@ getD-next : (ts : List ℕ) (k x : ℕ) (cs : List ℕ) → drop k ts ≡ x ∷ 
 getD-next ts k x cs e = ap (λ (i : ℕ). getD ts i 0) (sym (add-zero k)) ∙ sym (getD-drop k ts 0 0) ∙ ap (λ (l : List ℕ). getD l 0 0) e
 
 -- the first corner that is vertex r is where the walk goes on
-pub walk-next : (tags : List ℕ) (vs : List Float) (ts : List ℕ) (r k : ℕ) (cs : List ℕ) (es : List Entry) → drop k ts ≡ cs
-    → walked tags vs ts r k cs es ≡ follow tags vs ts r (firstFrom k r cs) es
+pub walk-next : (tags : List ℕ) (flat : Float) (vs : List Float) (ts : List ℕ) (r k : ℕ) (cs : List ℕ) (es : List Entry) → drop k ts ≡ cs
+    → walked tags flat vs ts r k cs es ≡ follow tags flat vs ts r (firstFrom k r cs) es
 unfolding walked follow firstFrom
-walk-next tags vs ts r k [] es e = refl
-walk-next tags vs ts r k (x ∷ cs) es e = go (eqb x r) (walk-next tags vs ts r (suc k) cs es (drop-next ts k x cs e))
+walk-next tags flat vs ts r k [] es e = refl
+walk-next tags flat vs ts r k (x ∷ cs) es e = go (eqb x r) (walk-next tags flat vs ts r (suc k) cs es (drop-next ts k x cs e))
   where
-    go : (b : Bool) → walked tags vs ts r (suc k) cs es ≡ follow tags vs ts r (firstFrom (suc k) r cs) es
-        → walked tags vs ts r (suc k) cs (pick b (added tags vs ts k es) es) ≡ follow tags vs ts r (pick b (suc k) (firstFrom (suc k) r cs)) es
-    go true h = ap (λ (l : List ℕ). walked tags vs ts r (suc k) l (added tags vs ts k es)) (sym (drop-next ts k x cs e))
+    go : (b : Bool) → walked tags flat vs ts r (suc k) cs es ≡ follow tags flat vs ts r (firstFrom (suc k) r cs) es
+        → walked tags flat vs ts r (suc k) cs (pick b (added tags flat vs ts k es) es) ≡ follow tags flat vs ts r (pick b (suc k) (firstFrom (suc k) r cs)) es
+    go true h = ap (λ (l : List ℕ). walked tags flat vs ts r (suc k) l (added tags flat vs ts k es)) (sym (drop-next ts k x cs e))
     go false h = h
 
-follow-on : (tags : List ℕ) (vs : List Float) (ts : List ℕ) (r c : ℕ) (es : List Entry) → 0 < c
-    → follow tags vs ts r c es ≡ walked tags vs ts r c (drop c ts) (added tags vs ts (c - 1) es)
+follow-on : (tags : List ℕ) (flat : Float) (vs : List Float) (ts : List ℕ) (r c : ℕ) (es : List Entry) → 0 < c
+    → follow tags flat vs ts r c es ≡ walked tags flat vs ts r c (drop c ts) (added tags flat vs ts (c - 1) es)
 unfolding follow
-follow-on tags vs ts r zero es h = absurd (omega arith)
-follow-on tags vs ts r (suc c) es h = let e : suc c - 1 ≡ c = omega arith in rw e
+follow-on tags flat vs ts r zero es h = absurd (omega arith)
+follow-on tags flat vs ts r (suc c) es h = let e : suc c - 1 ≡ c = omega arith in rw e
 
 -- where it stands, if it is not 0
 pub record First (ts : List ℕ) (k r c : ℕ) : Type 0 where
@@ -106,14 +106,14 @@ pick-same true es = refl
 pick-same false es = refl
 
 -- the nine of a triangle
-triangle-inserted : (tags : List ℕ) (vs : List Float) (r : ℕ) (q : Triangle) (es : List Entry)
-    → (let a = pick (eqb (q .i) r) (addedBy tags vs q 0 es) es in let b = pick (eqb (q .j) r) (addedBy tags vs q 1 a) a in
-    inserted tags r (trianglePushes vs (q .i) (q .j) (q .k)) es ≡ pick (eqb (q .k) r) (addedBy tags vs q 2 b) b)
+triangle-inserted : (tags : List ℕ) (flat : Float) (vs : List Float) (r : ℕ) (q : Triangle) (es : List Entry)
+    → (let a = pick (eqb (q .i) r) (addedBy tags flat vs q 0 es) es in let b = pick (eqb (q .j) r) (addedBy tags flat vs q 1 a) a in
+    inserted tags r (trianglePushes flat vs (q .i) (q .j) (q .k)) es ≡ pick (eqb (q .k) r) (addedBy tags flat vs q 2 b) b)
 unfolding addedBy inserted sideOf
-triangle-inserted tags vs r q es = rw (triangle-pushes vs q) (go (stiffIn vs q .skipped))
+triangle-inserted tags flat vs r q es = rw (triangle-pushes flat vs q) (go (stiffIn flat vs q .skipped))
   where
     side : ℕ → Side
-    side e = sideOf (stiffIn vs q) e
+    side e = sideOf (stiffIn flat vs q) e
 
     three : ℕ → Side → List Push
     three v s = push v (q .i) (s .i) ∷ push v (q .j) (s .j) ∷ push v (q .k) (s .k) ∷ []
@@ -122,7 +122,7 @@ triangle-inserted tags vs r q es = rw (triangle-pushes vs q) (go (stiffIn vs q .
     added-if b v e l = pick (eqb v r) (pick b l (threePlaced tags q (side e) l)) l
 
     go : (b : Bool)
-        → inserted tags r (pick b [] (nine (q .i) (q .j) (q .k) (stiffIn vs q .ii) (stiffIn vs q .ij) (stiffIn vs q .ik) (stiffIn vs q .jj) (stiffIn vs q .jk) (stiffIn vs q .kk))) es
+        → inserted tags r (pick b [] (nine (q .i) (q .j) (q .k) (stiffIn flat vs q .ii) (stiffIn flat vs q .ij) (stiffIn flat vs q .ik) (stiffIn flat vs q .jj) (stiffIn flat vs q .jk) (stiffIn flat vs q .kk))) es
         ≡ added-if b (q .k) 2 (added-if b (q .j) 1 (added-if b (q .i) 0 es))
     go true = rw (pick-same (eqb (q .i) r) es, pick-same (eqb (q .j) r) es, pick-same (eqb (q .k) r) es)
     go false =
@@ -135,9 +135,9 @@ triangle-inserted tags vs r q es = rw (triangle-pushes vs q) (go (stiffIn vs q .
         ∙ side-inserted tags r (q .k) q (side 2) z
 
 -- where a corner's triangle is
-added-at : (tags : List ℕ) (vs : List Float) (ts : List ℕ) (c q e : ℕ) (es : List Entry) → c ≡ 3 * q + e → e < 3 → added tags vs ts c es ≡ addedBy tags vs (triangleOf ts q) e es
+added-at : (tags : List ℕ) (flat : Float) (vs : List Float) (ts : List ℕ) (c q e : ℕ) (es : List Entry) → c ≡ 3 * q + e → e < 3 → added tags flat vs ts c es ≡ addedBy tags flat vs (triangleOf ts q) e es
 unfolding added
-added-at tags vs ts c q e es h l =
+added-at tags flat vs ts c q e es h l =
     let d : c / 3 ≡ q = omega arith in
     let m : c % 3 ≡ e = omega arith in
     rw (d, m)
@@ -155,29 +155,29 @@ triangle-next ts k q i j l cs e d =
     rw (gi, gj, gl)
 
 -- the whole walk
-pub walk-all : (tags : List ℕ) (vs : List Float) (ts : List ℕ) (r k q m : ℕ) (cs : List ℕ) (es : List Entry) → k ≡ 3 * q → length cs ≡ 3 * m → drop k ts ≡ cs
-    → walked tags vs ts r k cs es ≡ inserted tags r (pushes vs cs) es
+pub walk-all : (tags : List ℕ) (flat : Float) (vs : List Float) (ts : List ℕ) (r k q m : ℕ) (cs : List ℕ) (es : List Entry) → k ≡ 3 * q → length cs ≡ 3 * m → drop k ts ≡ cs
+    → walked tags flat vs ts r k cs es ≡ inserted tags r (pushes flat vs cs) es
 unfolding walked inserted pushes
-walk-all tags vs ts r k q m [] es a b d = refl
-walk-all tags vs ts r k q m (i ∷ []) es a b d = absurd (omega arith)
-walk-all tags vs ts r k q m (i ∷ j ∷ []) es a b d = absurd (omega arith)
-walk-all tags vs ts r k q m (i ∷ j ∷ l ∷ cs) es a b d =
+walk-all tags flat vs ts r k q m [] es a b d = refl
+walk-all tags flat vs ts r k q m (i ∷ []) es a b d = absurd (omega arith)
+walk-all tags flat vs ts r k q m (i ∷ j ∷ []) es a b d = absurd (omega arith)
+walk-all tags flat vs ts r k q m (i ∷ j ∷ l ∷ cs) es a b d =
     let t : Triangle = record { i = i; j = j; k = l } in
     let p : triangleOf ts q ≡ t = triangle-next ts k q i j l cs a d in
-    let by : (c e : ℕ) (x : List Entry) → c ≡ 3 * q + e → e < 3 → added tags vs ts c x ≡ addedBy tags vs t e x =
-    λ (c e : ℕ) (x : List Entry) (h : c ≡ 3 * q + e) (g : e < 3). added-at tags vs ts c q e x h g ∙ ap (λ (u : Triangle). addedBy tags vs u e x) p in
-    let y0 = pick (eqb i r) (addedBy tags vs t 0 es) es in
-    let y1 = pick (eqb j r) (addedBy tags vs t 1 y0) y0 in
-    let y2 = pick (eqb l r) (addedBy tags vs t 2 y1) y1 in
-    let e0 : pick (eqb i r) (added tags vs ts k es) es ≡ y0 = rw (by k 0 es (omega arith) (omega arith)) in
-    let e1 : pick (eqb j r) (added tags vs ts (suc k) y0) y0 ≡ y1 = rw (by (suc k) 1 y0 (omega arith) (omega arith)) in
-    let e2 : pick (eqb l r) (added tags vs ts (suc (suc k)) y1) y1 ≡ y2 = rw (by (suc (suc k)) 2 y1 (omega arith) (omega arith)) in
+    let by : (c e : ℕ) (x : List Entry) → c ≡ 3 * q + e → e < 3 → added tags flat vs ts c x ≡ addedBy tags flat vs t e x =
+    λ (c e : ℕ) (x : List Entry) (h : c ≡ 3 * q + e) (g : e < 3). added-at tags flat vs ts c q e x h g ∙ ap (λ (u : Triangle). addedBy tags flat vs u e x) p in
+    let y0 = pick (eqb i r) (addedBy tags flat vs t 0 es) es in
+    let y1 = pick (eqb j r) (addedBy tags flat vs t 1 y0) y0 in
+    let y2 = pick (eqb l r) (addedBy tags flat vs t 2 y1) y1 in
+    let e0 : pick (eqb i r) (added tags flat vs ts k es) es ≡ y0 = rw (by k 0 es (omega arith) (omega arith)) in
+    let e1 : pick (eqb j r) (added tags flat vs ts (suc k) y0) y0 ≡ y1 = rw (by (suc k) 1 y0 (omega arith) (omega arith)) in
+    let e2 : pick (eqb l r) (added tags flat vs ts (suc (suc k)) y1) y1 ≡ y2 = rw (by (suc (suc k)) 2 y1 (omega arith) (omega arith)) in
     let d1 : drop (suc k) ts ≡ j ∷ l ∷ cs = drop-next ts k i (j ∷ l ∷ cs) d in
     let d2 : drop (suc (suc k)) ts ≡ l ∷ cs = drop-next ts (suc k) j (l ∷ cs) d1 in
     rw (e0, e1, e2)
-    (walk-all tags vs ts r (suc (suc (suc k))) (suc q) (m - 1) cs y2 (omega arith) (omega arith) (drop-next ts (suc (suc k)) l cs d2)
-    ∙ ap (λ (x : List Entry). inserted tags r (pushes vs cs) x) (sym (triangle-inserted tags vs r t es))
-    ∙ sym (inserted-append tags r (trianglePushes vs i j l) (pushes vs cs) es))
+    (walk-all tags flat vs ts r (suc (suc (suc k))) (suc q) (m - 1) cs y2 (omega arith) (omega arith) (drop-next ts (suc (suc k)) l cs d2)
+    ∙ ap (λ (x : List Entry). inserted tags r (pushes flat vs cs) x) (sym (triangle-inserted tags flat vs r t es))
+    ∙ sym (inserted-append tags r (trianglePushes flat vs i j l) (pushes flat vs cs) es))
 
 -- ---- the loop that walks
 
@@ -193,19 +193,19 @@ ahead-less m (suc c) zero h k f = omega arith
 ahead-less m (suc c) (suc d) h k f = omega (arith, f (omega arith))
 
 -- after some turns the k entries es stand in the row buffer, and the corner c - 1 is next
-pub record Walking (f₀ : List Float) (w₀ : List ℕ) (f : List Float) (w : List ℕ) (n t : ℕ) (at : Places) (r k c : ℕ) : Type 0 where
+pub record Walking (f₀ : List Float) (w₀ : List ℕ) (f : List Float) (w : List ℕ) (n t : ℕ) (at : Places) (flat : Float) (r k c : ℕ) : Type 0 where
   pub es : List Entry
   pub written : Written f₀ w₀ f w (at .row) (at .rowcols) k es
   pub tidy : Tidy n es
   pub within : c ≤ 3 * t
   pub corner : 0 < c → getD (cornersIn w₀ t at) (c - 1) 0 ≡ r
-  pub rest : follow (tagsIn w₀ n at) (verticesIn f₀ n at) (cornersIn w₀ t at) r c es ≡ inserted (tagsIn w₀ n at) r (pushes (verticesIn f₀ n at) (cornersIn w₀ t at)) []
+  pub rest : follow (tagsIn w₀ n at) flat (verticesIn f₀ n at) (cornersIn w₀ t at) r c es ≡ inserted (tagsIn w₀ n at) r (pushes flat (verticesIn f₀ n at) (cornersIn w₀ t at)) []
 
-module _ (f₀ : List Float) (w₀ : List ℕ) (n t : ℕ) (at : Places) (r : ℕ) (b : Building f₀ w₀ n t at 0) (l : Linked w₀ n t at) (h : r < n) where
+module _ (f₀ : List Float) (w₀ : List ℕ) (n t : ℕ) (at : Places) (flat : Float) (r : ℕ) (b : Building f₀ w₀ n t at 0) (l : Linked w₀ n t at) (h : r < n) where
   long : length (cornersIn w₀ t at) ≡ 3 * t
   long = length-part w₀ (at .triangles) (3 * t) (omega (arith, b))
 
-  pub walk-none : (c : ℕ) → c ≡ getD w₀ (at .heads + r) 0 → Walking f₀ w₀ f₀ w₀ n t at r 0 c
+  pub walk-none : (c : ℕ) → c ≡ getD w₀ (at .heads + r) 0 → Walking f₀ w₀ f₀ w₀ n t at flat r 0 c
   unfolding valuesIn columnsIn
   walk-none c e =
       let tags = tagsIn w₀ n at in
@@ -219,20 +219,20 @@ module _ (f₀ : List Float) (w₀ : List ℕ) (n t : ℕ) (at : Places) (r : �
         tidy = tidy-none n;
         within = omega (arith, s .within, long);
         corner = s .is;
-        rest = rw g (sym (walk-next tags vs ts r 0 ts [] refl) ∙ walk-all tags vs ts r 0 0 t ts [] (omega arith) long refl);
+        rest = rw g (sym (walk-next tags flat vs ts r 0 ts [] refl) ∙ walk-all tags flat vs ts r 0 0 t ts [] (omega arith) long refl);
       }
 
-  module _ (f : List Float) (w : List ℕ) (k c : ℕ) (s : Walking f₀ w₀ f w n t at r k c) (p : 0 < c) (f′ : List Float) (w′ : List ℕ) (k′ : ℕ)
-      (a : Written f w f′ w′ (at .row) (at .rowcols) k′ (added (tagsIn w n at) (verticesIn f n at) (cornersIn w t at) (c - 1) (rowIn f w at k))) where
+  module _ (f : List Float) (w : List ℕ) (k c : ℕ) (s : Walking f₀ w₀ f w n t at flat r k c) (p : 0 < c) (f′ : List Float) (w′ : List ℕ) (k′ : ℕ)
+      (a : Written f w f′ w′ (at .row) (at .rowcols) k′ (added (tagsIn w n at) flat (verticesIn f n at) (cornersIn w t at) (c - 1) (rowIn f w at k))) where
     -- the entries after the corner
-    next-written : Written f₀ w₀ f′ w′ (at .row) (at .rowcols) k′ (added (tagsIn w₀ n at) (verticesIn f₀ n at) (cornersIn w₀ t at) (c - 1) (s .es))
+    next-written : Written f₀ w₀ f′ w′ (at .row) (at .rowcols) k′ (added (tagsIn w₀ n at) flat (verticesIn f₀ n at) (cornersIn w₀ t at) (c - 1) (s .es))
     unfolding added
     next-written =
         let tags = tagsIn w₀ n at in
         let vs = verticesIn f₀ n at in
         let ts = cornersIn w₀ t at in
-        let es = added tags vs ts (c - 1) (s .es) in
-        let m : length (s .es) ≤ length es = by-longer n tags vs (triangleOf ts ((c - 1) / 3)) ((c - 1) % 3) (s .es) in
+        let es = added tags flat vs ts (c - 1) (s .es) in
+        let m : length (s .es) ≤ length es = by-longer n tags flat vs (triangleOf ts ((c - 1) / 3)) ((c - 1) % 3) (s .es) in
         written-then f₀ w₀ (at .row) (at .rowcols) f w k (s .es) (s .written) f′ w′ k′ es m
         (rw (tags-stay f₀ w₀ n t at 0 b f w k (s .es) (s .written), vertices-stay f₀ w₀ n t at 0 b f w k (s .es) (s .written), corners-stay f₀ w₀ n t at 0 b f w k (s .es) (s .written), row-read f₀ w₀ n t at 0 b f w k (s .es) (s .written) (s .tidy)) at a)
 
@@ -242,7 +242,7 @@ module _ (f₀ : List Float) (w₀ : List ℕ) (n t : ℕ) (at : Places) (r : �
         let ts = cornersIn w₀ t at in
         let i = c - 1 in
         let j : i < 3 * t = omega (arith, s .within) in
-        let es = added (tagsIn w₀ n at) (verticesIn f₀ n at) ts i (s .es) in
+        let es = added (tagsIn w₀ n at) flat (verticesIn f₀ n at) ts i (s .es) in
         let a1 : suc (0 + i) ≡ c = omega arith in
         let a2 : suc i ≡ c = omega arith in
         e ∙ sym (getD-part w′ (at .links) (3 * t) i 0 j)
@@ -258,7 +258,7 @@ module _ (f₀ : List Float) (w₀ : List ℕ) (n t : ℕ) (at : Places) (r : �
         let u : First ts c r d = rw (next-corner d e) (first-is ts c r (drop c ts) refl) in
         ahead-less (3 * t) c d p (s .within) (u .later)
 
-    pub walk-again : (d : ℕ) → d ≡ getD w′ (at .links + (c - 1)) 0 → Walking f₀ w₀ f′ w′ n t at r k′ d
+    pub walk-again : (d : ℕ) → d ≡ getD w′ (at .links + (c - 1)) 0 → Walking f₀ w₀ f′ w′ n t at flat r k′ d
     unfolding added
     walk-again d e =
         let tags = tagsIn w₀ n at in
@@ -268,15 +268,15 @@ module _ (f₀ : List Float) (w₀ : List ℕ) (n t : ℕ) (at : Places) (r : �
         let g : d ≡ firstFrom c r (drop c ts) = next-corner d e in
         let u : First ts c r d = rw g (first-is ts c r (drop c ts) refl) in
         record {
-          es = added tags vs ts (c - 1) (s .es);
+          es = added tags flat vs ts (c - 1) (s .es);
           written = next-written;
-          tidy = tidy-by n tags vs (triangleOf ts q) ((c - 1) % 3) (s .es) (triangle-within n ts q (b .words-laid .corners) (omega (arith, s .within, long))) (s .tidy);
+          tidy = tidy-by n tags flat vs (triangleOf ts q) ((c - 1) % 3) (s .es) (triangle-within n ts q (b .words-laid .corners) (omega (arith, s .within, long))) (s .tidy);
           within = omega (arith, u .within, long);
           corner = u .is;
-          rest = rw g (sym (walk-next tags vs ts r c (drop c ts) (added tags vs ts (c - 1) (s .es)) refl) ∙ sym (follow-on tags vs ts r c (s .es) p) ∙ s .rest);
+          rest = rw g (sym (walk-next tags flat vs ts r c (drop c ts) (added tags flat vs ts (c - 1) (s .es)) refl) ∙ sym (follow-on tags flat vs ts r c (s .es) p) ∙ s .rest);
         }
 
-  pub walk-done : (f : List Float) (w : List ℕ) (k c : ℕ) → c ≡ 0 → Walking f₀ w₀ f w n t at r k c
-      → Written f₀ w₀ f w (at .row) (at .rowcols) k (inserted (tagsIn w₀ n at) r (pushes (verticesIn f₀ n at) (cornersIn w₀ t at)) [])
+  pub walk-done : (f : List Float) (w : List ℕ) (k c : ℕ) → c ≡ 0 → Walking f₀ w₀ f w n t at flat r k c
+      → Written f₀ w₀ f w (at .row) (at .rowcols) k (inserted (tagsIn w₀ n at) r (pushes flat (verticesIn f₀ n at) (cornersIn w₀ t at)) [])
   unfolding follow
   walk-done f w k c e s = rw (← (s .rest), e) (s .written)

@@ -11,7 +11,7 @@ use Rattle.binary64.specs.Constants.{plusZero, one, half}
 use Rattle.binary64.specs.Number.{pick, absOf}
 use Rattle.sparse.specs.Sparse.{Entry, entry}
 use Rattle.mesh.specs.declared.Slope.{Slope}
-pub use Rattle.mesh.specs.Element.{slope, area2, flat}
+pub use Rattle.mesh.specs.Element.{slope, area2}
 use Rattle.laplace.specs.Mesh.{vertex, tagOf, free, held}
 
 -- ---- the linear triangle
@@ -38,8 +38,9 @@ abbrev pub stiff : ℕ → ℕ → ℕ → Slope → Slope → Slope → Float �
 stiff i j k si sj sk inv =
     nine i j k (stiffness inv si si) (stiffness inv si sj) (stiffness inv si sk) (stiffness inv sj sj) (stiffness inv sj sk) (stiffness inv sk sk)
 
-unfoldable pub trianglePushes : List Float → ℕ → ℕ → ℕ → List Push
-trianglePushes vs i j k =
+-- those of one triangle: none where twice its area is below `flat` in magnitude
+unfoldable pub trianglePushes : Float → List Float → ℕ → ℕ → ℕ → List Push
+trianglePushes flat vs i j k =
     let si = slope (vertex vs j) (vertex vs k) in
     let sj = slope (vertex vs k) (vertex vs i) in
     let sk = slope (vertex vs i) (vertex vs j) in
@@ -47,11 +48,11 @@ trianglePushes vs i j k =
     pick (lt area flat) [] (stiff i j k si sj sk (one ⊘ area))
 
 -- those of all triangles, in order; what is left of a list that does not come in threes pushes nothing
-unfoldable pub pushes : List Float → List ℕ → List Push
-pushes vs [] = []
-pushes vs (i ∷ []) = []
-pushes vs (i ∷ j ∷ []) = []
-pushes vs (i ∷ j ∷ k ∷ ts) = trianglePushes vs i j k ++ pushes vs ts
+unfoldable pub pushes : Float → List Float → List ℕ → List Push
+pushes flat vs [] = []
+pushes flat vs (i ∷ []) = []
+pushes flat vs (i ∷ j ∷ []) = []
+pushes flat vs (i ∷ j ∷ k ∷ ts) = trianglePushes flat vs i j k ++ pushes flat vs ts
 
 -- ---- the matrix
 

@@ -10,10 +10,10 @@ use Rattle.plane.specs.declared.Point.{Point}
 use Rattle.laplace.specs.declared.element.Stiff.{Stiff}
 use Rattle.laplace.specs.declared.element.Triangle.{Triangle}
 use Rattle.laplace.specs.Mesh.{vertex}
-use Rattle.laplace.specs.Assembly.{slope, area2, stiffness, flat}
+use Rattle.laplace.specs.Assembly.{slope, area2, stiffness}
 
-unfoldable pub stiffOf : Point → Point → Point → Stiff
-stiffOf a b c =
+unfoldable pub stiffOf : Float → Point → Point → Point → Stiff
+stiffOf flat a b c =
     let si = slope b c in
     let sj = slope c a in
     let sk = slope a b in
@@ -32,6 +32,6 @@ pub record Within (n : ℕ) (q : Triangle) : Type 0 where
   pub k : q .k < n
 
 -- its stiffness in a mesh
-unfoldable pub stiffIn : List Float → Triangle → Stiff
+unfoldable pub stiffIn : Float → List Float → Triangle → Stiff
 unfolding stiffOf
-stiffIn vs q = stiffOf (vertex vs (q .i)) (vertex vs (q .j)) (vertex vs (q .k))
+stiffIn flat vs q = stiffOf flat (vertex vs (q .i)) (vertex vs (q .j)) (vertex vs (q .k))

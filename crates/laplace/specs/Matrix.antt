@@ -17,7 +17,7 @@ use Rattle.binary64.specs.Constants.{one}
 use Rattle.binary64.specs.Number.{pick, absOf}
 use Rattle.sparse.specs.Sparse.{Entry, entry}
 use Rattle.laplace.specs.Mesh.{vertex, free}
-use Rattle.laplace.specs.Assembly.{Push, push, nine, stiff, slope, area2, flat, trianglePushes, pushes, insert, inserted, row, rows}
+use Rattle.laplace.specs.Assembly.{Push, push, nine, stiff, slope, area2, trianglePushes, pushes, insert, inserted, row, rows}
 
 -- ---- what stands at a column
 
@@ -255,9 +255,9 @@ nine-swap : (a b i j k : ℕ) (ii ij ik jj jk kk : Float) (acc : Option Float) �
 unfolding summed
 nine-swap a b i j k ii ij ik jj jk kk acc n = adds-swap (side i a b n) (side j a b n) (side k a b n) ii ij ik jj jk kk acc
 
-triangle-swap : (vs : List Float) (a b i j k : ℕ) (acc : Option Float) → (a ≡ b → ⊥) → summed a b (trianglePushes vs i j k) acc ≡ summed b a (trianglePushes vs i j k) acc
+triangle-swap : (flat : Float) (vs : List Float) (a b i j k : ℕ) (acc : Option Float) → (a ≡ b → ⊥) → summed a b (trianglePushes flat vs i j k) acc ≡ summed b a (trianglePushes flat vs i j k) acc
 unfolding trianglePushes summed
-triangle-swap vs a b i j k acc n = go (lt (absOf (area2 (slope (vertex vs j) (vertex vs k)) (slope (vertex vs k) (vertex vs i)))) flat)
+triangle-swap flat vs a b i j k acc n = go (lt (absOf (area2 (slope (vertex vs j) (vertex vs k)) (slope (vertex vs k) (vertex vs i)))) flat)
   where
     inv : Float
     inv = one ⊘ absOf (area2 (slope (vertex vs j) (vertex vs k)) (slope (vertex vs k) (vertex vs i)))
@@ -269,14 +269,14 @@ triangle-swap vs a b i j k acc n = go (lt (absOf (area2 (slope (vertex vs j) (ve
     go true = refl
     go false = nine-swap a b i j k _ _ _ _ _ _ acc n
 
-pushes-swap : (vs : List Float) (ts : List ℕ) (a b : ℕ) (acc : Option Float) → (a ≡ b → ⊥) → summed a b (pushes vs ts) acc ≡ summed b a (pushes vs ts) acc
+pushes-swap : (flat : Float) (vs : List Float) (ts : List ℕ) (a b : ℕ) (acc : Option Float) → (a ≡ b → ⊥) → summed a b (pushes flat vs ts) acc ≡ summed b a (pushes flat vs ts) acc
 unfolding pushes summed
-pushes-swap vs [] a b acc n = refl
-pushes-swap vs (i ∷ []) a b acc n = refl
-pushes-swap vs (i ∷ j ∷ []) a b acc n = refl
-pushes-swap vs (i ∷ j ∷ k ∷ ts) a b acc n =
-    rw (summed-append a b (trianglePushes vs i j k) (pushes vs ts) acc, summed-append b a (trianglePushes vs i j k) (pushes vs ts) acc, triangle-swap vs a b i j k acc n)
-    (pushes-swap vs ts a b (summed b a (trianglePushes vs i j k) acc) n)
+pushes-swap flat vs [] a b acc n = refl
+pushes-swap flat vs (i ∷ []) a b acc n = refl
+pushes-swap flat vs (i ∷ j ∷ []) a b acc n = refl
+pushes-swap flat vs (i ∷ j ∷ k ∷ ts) a b acc n =
+    rw (summed-append a b (trianglePushes flat vs i j k) (pushes flat vs ts) acc, summed-append b a (trianglePushes flat vs i j k) (pushes flat vs ts) acc, triangle-swap flat vs a b i j k acc n)
+    (pushes-swap flat vs ts a b (summed b a (trianglePushes flat vs i j k) acc) n)
 
 -- ---- the theorems
 
@@ -310,18 +310,18 @@ held-across tags ps a b h e =
     held-entry tags ps a b h e ∙ sym (rw f at (held-column tags ps b a h))
 
 -- The matrix equals its transpose, entries and their bits alike, for every mesh.
-pub symmetric : (tags : List ℕ) (vs : List Float) (ts : List ℕ) (a b : ℕ) → valueAt (row tags (pushes vs ts) a) b ≡ valueAt (row tags (pushes vs ts) b) a
-symmetric tags vs ts a b = go (free tags a) (free tags b) (eqb a b) refl refl refl
+pub symmetric : (tags : List ℕ) (flat : Float) (vs : List Float) (ts : List ℕ) (a b : ℕ) → valueAt (row tags (pushes flat vs ts) a) b ≡ valueAt (row tags (pushes flat vs ts) b) a
+symmetric tags flat vs ts a b = go (free tags a) (free tags b) (eqb a b) refl refl refl
   where
     ps : List Push
-    ps = pushes vs ts
+    ps = pushes flat vs ts
 
-    go : (fa fb x : Bool) → free tags a ≡ fa → free tags b ≡ fb → eqb a b ≡ x → valueAt (row tags (pushes vs ts) a) b ≡ valueAt (row tags (pushes vs ts) b) a
+    go : (fa fb x : Bool) → free tags a ≡ fa → free tags b ≡ fb → eqb a b ≡ x → valueAt (row tags (pushes flat vs ts) a) b ≡ valueAt (row tags (pushes flat vs ts) b) a
     go fa fb true p q e = let k : a ≡ b = eqb-true a b e in cc
-    go false fb false p q e = held-across tags (pushes vs ts) a b p e
-    go true false false p q e = sym (held-across tags (pushes vs ts) b a q (ne-eqb b a (λ (k : b ≡ a). eqb-false a b e (sym k))))
+    go false fb false p q e = held-across tags (pushes flat vs ts) a b p e
+    go true false false p q e = sym (held-across tags (pushes flat vs ts) b a q (ne-eqb b a (λ (k : b ≡ a). eqb-false a b e (sym k))))
     go true true false p q e =
-        free-entry tags (pushes vs ts) a b p q ∙ pushes-swap vs ts a b none (eqb-false a b e) ∙ sym (free-entry tags (pushes vs ts) b a q p)
+        free-entry tags (pushes flat vs ts) a b p q ∙ pushes-swap flat vs ts a b none (eqb-false a b e) ∙ sym (free-entry tags (pushes flat vs ts) b a q p)
 
 -- Columns rise in every row.
 pub row-rising : (tags : List ℕ) (ps : List Push) (i : ℕ) → Rising 0 (row tags ps i)
@@ -365,22 +365,22 @@ unfolding PushedBelow
 below-append n [] qs h k = k
 below-append n (p ∷ ps) qs h k = (h .0, below-append n ps qs (h .1) k)
 
-triangle-below : (n : ℕ) (vs : List Float) (i j k : ℕ) → i < n → j < n → k < n → PushedBelow n (trianglePushes vs i j k)
+triangle-below : (n : ℕ) (flat : Float) (vs : List Float) (i j k : ℕ) → i < n → j < n → k < n → PushedBelow n (trianglePushes flat vs i j k)
 unfolding trianglePushes PushedBelow
-triangle-below n vs i j k hi hj hk = go (lt (absOf (area2 (slope (vertex vs j) (vertex vs k)) (slope (vertex vs k) (vertex vs i)))) flat)
+triangle-below n flat vs i j k hi hj hk = go (lt (absOf (area2 (slope (vertex vs j) (vertex vs k)) (slope (vertex vs k) (vertex vs i)))) flat)
   where
     go : (t : Bool) → PushedBelow n (pick t [] (stiff i j k (slope (vertex vs j) (vertex vs k)) (slope (vertex vs k) (vertex vs i)) (slope (vertex vs i) (vertex vs j)) (one ⊘ absOf (area2 (slope (vertex vs j) (vertex vs k)) (slope (vertex vs k) (vertex vs i))))))
     go true = tt
     go false = (hi, (hj, (hk, (hi, (hj, (hk, (hi, (hj, (hk, tt)))))))))
 
 -- What the triangles push is below n, where their corners are.
-pub pushes-below : (n : ℕ) (vs : List Float) (ts : List ℕ) → AllBelow n ts → PushedBelow n (pushes vs ts)
+pub pushes-below : (n : ℕ) (flat : Float) (vs : List Float) (ts : List ℕ) → AllBelow n ts → PushedBelow n (pushes flat vs ts)
 unfolding pushes PushedBelow AllBelow
-pushes-below n vs [] h = tt
-pushes-below n vs (i ∷ []) h = tt
-pushes-below n vs (i ∷ j ∷ []) h = tt
-pushes-below n vs (i ∷ j ∷ k ∷ ts) h =
-    below-append n (trianglePushes vs i j k) (pushes vs ts) (triangle-below n vs i j k (h .0) (h .1 .0) (h .1 .1 .0)) (pushes-below n vs ts (h .1 .1 .1))
+pushes-below n flat vs [] h = tt
+pushes-below n flat vs (i ∷ []) h = tt
+pushes-below n flat vs (i ∷ j ∷ []) h = tt
+pushes-below n flat vs (i ∷ j ∷ k ∷ ts) h =
+    below-append n (trianglePushes flat vs i j k) (pushes flat vs ts) (triangle-below n flat vs i j k (h .0) (h .1 .0) (h .1 .1 .0)) (pushes-below n flat vs ts (h .1 .1 .1))
 
 -- ---- how many entries
 
@@ -427,20 +427,20 @@ inRows-le : (n : ℕ) (ps : List Push) → inRows n ps ≤ length ps
 inRows-le n [] = omega (arith, none-in n)
 inRows-le n (p ∷ ps) = omega (arith, inRows-cons n p ps .0, inRows-le n ps)
 
-triangle-length : (vs : List Float) (i j k : ℕ) → length (trianglePushes vs i j k) ≤ 9
+triangle-length : (flat : Float) (vs : List Float) (i j k : ℕ) → length (trianglePushes flat vs i j k) ≤ 9
 unfolding trianglePushes
-triangle-length vs i j k = go (lt (absOf (area2 (slope (vertex vs j) (vertex vs k)) (slope (vertex vs k) (vertex vs i)))) flat)
+triangle-length flat vs i j k = go (lt (absOf (area2 (slope (vertex vs j) (vertex vs k)) (slope (vertex vs k) (vertex vs i)))) flat)
   where
     go : (t : Bool) → length (pick t [] (stiff i j k (slope (vertex vs j) (vertex vs k)) (slope (vertex vs k) (vertex vs i)) (slope (vertex vs i) (vertex vs j)) (one ⊘ absOf (area2 (slope (vertex vs j) (vertex vs k)) (slope (vertex vs k) (vertex vs i)))))) ≤ 9
     go true = omega arith
     go false = omega arith
 
-pub pushes-length : (vs : List Float) (ts : List ℕ) → length (pushes vs ts) ≤ 3 * length ts
+pub pushes-length : (flat : Float) (vs : List Float) (ts : List ℕ) → length (pushes flat vs ts) ≤ 3 * length ts
 unfolding pushes
-pushes-length vs [] = omega arith
-pushes-length vs (i ∷ []) = omega arith
-pushes-length vs (i ∷ j ∷ []) = omega arith
-pushes-length vs (i ∷ j ∷ k ∷ ts) = simp length-append (omega (arith, triangle-length vs i j k, pushes-length vs ts))
+pushes-length flat vs [] = omega arith
+pushes-length flat vs (i ∷ []) = omega arith
+pushes-length flat vs (i ∷ j ∷ []) = omega arith
+pushes-length flat vs (i ∷ j ∷ k ∷ ts) = simp length-append (omega (arith, triangle-length flat vs i j k, pushes-length flat vs ts))
 
 -- the entries of all rows
 unfoldable pub count : List (List Entry) → ℕ
@@ -466,5 +466,5 @@ rows-count tags ps zero = omega arith
 rows-count tags ps (suc n) = omega (arith, count-append (rows tags ps n) (row tags ps n ∷ []), rows-count tags ps n, row-length tags ps n)
 
 -- The matrix has at most 9T + n entries: 3 for each corner of its triangles, and 1 for each vertex.
-pub few-entries : (tags : List ℕ) (vs : List Float) (ts : List ℕ) (n : ℕ) → count (rows tags (pushes vs ts) n) ≤ 3 * length ts + n
-few-entries tags vs ts n = omega (arith, rows-count tags (pushes vs ts) n, inRows-le n (pushes vs ts), pushes-length vs ts)
+pub few-entries : (tags : List ℕ) (flat : Float) (vs : List Float) (ts : List ℕ) (n : ℕ) → count (rows tags (pushes flat vs ts) n) ≤ 3 * length ts + n
+few-entries tags flat vs ts n = omega (arith, rows-count tags (pushes flat vs ts) n, inRows-le n (pushes flat vs ts), pushes-length flat vs ts)

@@ -87,14 +87,14 @@ sideOf s (suc zero) = record { i = s .ij; j = s .jj; k = s .jk }
 sideOf s (suc (suc e)) = record { i = s .ik; j = s .jk; k = s .kk }
 
 -- the entries of corner e of a triangle
-unfoldable pub addedBy : List ℕ → List Float → Triangle → ℕ → List Entry → List Entry
+unfoldable pub addedBy : List ℕ → Float → List Float → Triangle → ℕ → List Entry → List Entry
 unfolding threePlaced
-addedBy tags vs q e es = let s = stiffIn vs q in pick (s .skipped) es (threePlaced tags q (sideOf s e) es)
+addedBy tags flat vs q e es = let s = stiffIn flat vs q in pick (s .skipped) es (threePlaced tags q (sideOf s e) es)
 
 -- those of corner c of the mesh
-unfoldable pub added : List ℕ → List Float → List ℕ → ℕ → List Entry → List Entry
+unfoldable pub added : List ℕ → Float → List Float → List ℕ → ℕ → List Entry → List Entry
 unfolding addedBy
-added tags vs ts c es = addedBy tags vs (triangleOf ts (c / 3)) (c % 3) es
+added tags flat vs ts c es = addedBy tags flat vs (triangleOf ts (c / 3)) (c % 3) es
 
 -- ---- a vertex's corners, by heads and links
 

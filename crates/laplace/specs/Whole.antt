@@ -14,15 +14,15 @@ use Rattle.laplace.specs.Laid.{LaidFloats, LaidWords}
 use Rattle.laplace.specs.Placed.{valuesIn, columnsIn, valuesOf, columnsOf, startsOf, padded}
 use Rattle.laplace.specs.Row.{verticesIn, cornersIn, tagsIn, Linked}
 
-abbrev pub pushesIn : List Float → List ℕ → ℕ → ℕ → Places → List Push
-pushesIn floats words n t at = pushes (verticesIn floats n at) (cornersIn words t at)
+abbrev pub pushesIn : Float → List Float → List ℕ → ℕ → ℕ → Places → List Push
+pushesIn flat floats words n t at = pushes flat (verticesIn floats n at) (cornersIn words t at)
 
 -- row r, and the first i rows
-abbrev pub rowFor : List Float → List ℕ → ℕ → ℕ → Places → ℕ → List Entry
-rowFor floats words n t at r = row (tagsIn words n at) (pushesIn floats words n t at) r
+abbrev pub rowFor : Float → List Float → List ℕ → ℕ → ℕ → Places → ℕ → List Entry
+rowFor flat floats words n t at r = row (tagsIn words n at) (pushesIn flat floats words n t at) r
 
-abbrev pub rowsFor : List Float → List ℕ → ℕ → ℕ → Places → ℕ → List (List Entry)
-rowsFor floats words n t at i = rows (tagsIn words n at) (pushesIn floats words n t at) i
+abbrev pub rowsFor : Float → List Float → List ℕ → ℕ → ℕ → Places → ℕ → List (List Entry)
+rowsFor flat floats words n t at i = rows (tagsIn words n at) (pushesIn flat floats words n t at) i
 
 -- ---- a row put behind those before it
 

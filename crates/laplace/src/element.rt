@@ -12,9 +12,6 @@ ghost use Rattle.laplace.specs.Assembly as Assembly;
 ghost use Rattle.laplace.specs.Element as Element;
 ghost use Rattle.laplace.specs.Row as Row;
 
-// A triangle of less twice its area is skipped.
-const FLAT: f64 = 1e-30;
-
 // The slope of the corner that faces the edge from p to q.
 pub fn slope_of(p: Point, q: Point) -> Slope
     ensures { λ r. ⌜ r ≡ Assembly.slope p q ⌝ }
@@ -37,7 +34,7 @@ pub fn stiffness(inv: f64, s: Slope, t: Slope) -> f64
     (s.b * t.b + s.c * t.c) * inv * 0.5
 }
 
-// What the corners of a triangle push on each other; nothing where it is skipped.
+// What the corners of a triangle push on each other; nothing where it is skipped, since twice its area is below `flat` in magnitude.
 pub struct Stiff {
     pub skipped: bool,
     pub ii: f64,
@@ -48,8 +45,8 @@ pub struct Stiff {
     pub kk: f64,
 }
 
-pub fn stiff_of(a: Point, b: Point, c: Point) -> Stiff
-    ensures { λ r. ⌜ r ≡ Element.stiffOf a b c ⌝ }
+pub fn stiff_of(flat: f64, a: Point, b: Point, c: Point) -> Stiff
+    ensures { λ r. ⌜ r ≡ Element.stiffOf flat a b c ⌝ }
 {
     let si = slope_of(b, c);
     let sj = slope_of(c, a);
@@ -57,7 +54,7 @@ pub fn stiff_of(a: Point, b: Point, c: Point) -> Stiff
     let area = binary64::abs(area2(si, sj));
     let inv = 1.0 / area;
     Stiff {
-        skipped: area < FLAT,
+        skipped: area < flat,
         ii: stiffness(inv, si, si),
         ij: stiffness(inv, si, sj),
         ik: stiffness(inv, si, sk),
@@ -134,12 +131,12 @@ pub fn triangle_at(words: &[u32], at: usize, t: usize, q: usize, n: usize) -> Tr
 }
 
 // Its stiffness in the mesh whose n vertices start at `at`.
-pub fn stiff_at(floats: &[f64], at: usize, n: usize, q: Triangle) -> Stiff
+pub fn stiff_at(floats: &[f64], at: usize, n: usize, flat: f64, q: Triangle) -> Stiff
     requires { ⌜ (at + 2 * n ≤ length (now floats)) × Element.Within n q ⌝ }
-    ensures { λ r. ⌜ r ≡ Element.stiffIn (part (now (floats .entry)) at (2 * n)) q ⌝ }
+    ensures { λ r. ⌜ r ≡ Element.stiffIn flat (part (now (floats .entry)) at (2 * n)) q ⌝ }
 {
     let a = vertex_at(floats, at, n, wide(q.i));
     let b = vertex_at(floats, at, n, wide(q.j));
     let c = vertex_at(floats, at, n, wide(q.k));
-    stiff_of(a, b, c)
+    stiff_of(flat, a, b, c)
 }

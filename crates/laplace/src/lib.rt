@@ -55,17 +55,24 @@ fn unlink(words: &mut [u32], n: usize, t: usize, at: Places)
     stretch::fill_words(words, at.links, 3 * t, 0);
 }
 
-// The matrix and the right side of the mesh that stands in the buffers. Answers how many entries the matrix has.
-pub fn assemble(floats: &mut [f64], words: &mut [u32], n: usize, t: usize, at: Places) -> usize
+// The matrix and the right side of the mesh that stands in the buffers; a triangle is skipped where twice its area is below `flat` in magnitude. Answers how many entries the matrix has.
+pub fn assemble(
+    floats: &mut [f64],
+    words: &mut [u32],
+    n: usize,
+    t: usize,
+    at: Places,
+    flat: f64,
+) -> usize
     requires { ⌜ LaidFloats (now floats) n t at × LaidWords (now words) n t at ⌝ }
     ensures { λ k. ⌜ Whole.Assembled (now (floats .entry)) (now (words .entry)) (now (floats .exit)) (now (words .exit)) n t at k
-        (Whole.rowsFor (now (floats .entry)) (now (words .entry)) n t at n)
-        (Assembly.rightSide heldValue (tagsIn (now (words .entry)) n at) (Whole.pushesIn (now (floats .entry)) (now (words .entry)) n t at) n) ⌝ }
+        (Whole.rowsFor flat (now (floats .entry)) (now (words .entry)) n t at n)
+        (Assembly.rightSide heldValue (tagsIn (now (words .entry)) n at) (Whole.pushesIn flat (now (floats .entry)) (now (words .entry)) n t at) n) ⌝ }
 {
     clear(floats, words, n, t, at);
     corners::link(words, n, t, at);
-    let count = matrix::fill_matrix(floats, words, n, t, at);
+    let count = matrix::fill_matrix(floats, words, n, t, at, flat);
     unlink(words, n, t, at);
-    right::right_side(floats, words, n, t, at);
+    right::right_side(floats, words, n, t, at, flat);
     count
 }

@@ -35,13 +35,14 @@ fn put_row(
     n: usize,
     t: usize,
     at: Places,
+    flat: f64,
     r: usize,
     count: usize,
 ) -> usize
-    requires { ⌜ Whole.Ready (now floats) (now words) n t at × (r < n) × (count + length (Whole.rowFor (now floats) (now words) n t at r) ≤ 9 * t + n) ⌝ }
-    ensures { λ e. ⌜ Whole.RowPut (now (floats .entry)) (now (words .entry)) (now (floats .exit)) (now (words .exit)) at r count e (Whole.rowFor (now (floats .entry)) (now (words .entry)) n t at r) ⌝ }
+    requires { ⌜ Whole.Ready (now floats) (now words) n t at × (r < n) × (count + length (Whole.rowFor flat (now floats) (now words) n t at r) ≤ 9 * t + n) ⌝ }
+    ensures { λ e. ⌜ Whole.RowPut (now (floats .entry)) (now (words .entry)) (now (floats .exit)) (now (words .exit)) at r count e (Whole.rowFor flat (now (floats .entry)) (now (words .entry)) n t at r) ⌝ }
 {
-    let k = fill_row(floats, words, n, t, at, r);
+    let k = fill_row(floats, words, n, t, at, flat, r);
     append(floats, words, n, t, at, k, count);
     let end = count + k;
     let q = at.starts + r + 1;
@@ -50,13 +51,20 @@ fn put_row(
 }
 
 // All rows. Answers how many entries they have.
-pub fn fill_matrix(floats: &mut [f64], words: &mut [u32], n: usize, t: usize, at: Places) -> usize
+pub fn fill_matrix(
+    floats: &mut [f64],
+    words: &mut [u32],
+    n: usize,
+    t: usize,
+    at: Places,
+    flat: f64,
+) -> usize
     requires { ⌜ Whole.Ready (now floats) (now words) n t at ⌝ }
-    ensures { λ k. ⌜ Whole.RowsPut (now (floats .entry)) (now (words .entry)) (now (floats .exit)) (now (words .exit)) at k (Whole.rowsFor (now (floats .entry)) (now (words .entry)) n t at n) ⌝ }
+    ensures { λ k. ⌜ Whole.RowsPut (now (floats .entry)) (now (words .entry)) (now (floats .exit)) (now (words .exit)) at k (Whole.rowsFor flat (now (floats .entry)) (now (words .entry)) n t at n) ⌝ }
 {
     let mut count = 0;
     for r in 0..n {
-        count = put_row(floats, words, n, t, at, r, count);
+        count = put_row(floats, words, n, t, at, flat, r, count);
     }
     count
 }

@@ -140,28 +140,29 @@ fn couple_corners(
     vertices: usize,
     right: usize,
     tags: usize,
+    flat: f64,
     q: Triangle,
 )
     requires { ⌜ Right.Couples (now floats) (now words) n right tags × (vertices + 2 * n ≤ length (now floats)) × Within n q ⌝ }
     ensures { λ _. ⌜ Wrote (now (floats .entry)) (now (floats .exit)) right n
-        (Assembly.allCoupled heldValue (part (now (words .entry)) tags n) (Right.stiffPushes q (Element.stiffIn (part (now (floats .entry)) vertices (2 * n)) q)) (part (now (floats .entry)) right n)) ⌝ }
+        (Assembly.allCoupled heldValue (part (now (words .entry)) tags n) (Right.stiffPushes q (Element.stiffIn flat (part (now (floats .entry)) vertices (2 * n)) q)) (part (now (floats .entry)) right n)) ⌝ }
 {
     if is_free(words, n, tags, q) {
         return;
     }
-    let s = stiff_at(floats, vertices, n, q);
+    let s = stiff_at(floats, vertices, n, flat, q);
     couple_triangle(floats, words, n, right, tags, q, s);
 }
 
 // Those of all triangles.
-fn couple_all(floats: &mut [f64], words: &[u32], n: usize, t: usize, at: Places)
+fn couple_all(floats: &mut [f64], words: &[u32], n: usize, t: usize, at: Places, flat: f64)
     requires { ⌜ LaidFloats (now floats) n t at × LaidWords (now words) n t at ⌝ }
     ensures { λ _. ⌜ Wrote (now (floats .entry)) (now (floats .exit)) (at .right) n
-        (Assembly.allCoupled heldValue (tagsIn (now (words .entry)) n at) (pushesIn (now (floats .entry)) (now (words .entry)) n t at) (part (now (floats .entry)) (at .right) n)) ⌝ }
+        (Assembly.allCoupled heldValue (tagsIn (now (words .entry)) n at) (pushesIn flat (now (floats .entry)) (now (words .entry)) n t at) (part (now (floats .entry)) (at .right) n)) ⌝ }
 {
     for i in 0..t {
         let q = triangle_at(words, at.triangles, t, i, n);
-        couple_corners(floats, words, n, at.vertices, at.right, at.tags, q);
+        couple_corners(floats, words, n, at.vertices, at.right, at.tags, flat, q);
     }
 }
 
@@ -188,12 +189,12 @@ fn settle(floats: &mut [f64], words: &[u32], n: usize, right: usize, tags: usize
 }
 
 // The whole right side.
-pub fn right_side(floats: &mut [f64], words: &[u32], n: usize, t: usize, at: Places)
+pub fn right_side(floats: &mut [f64], words: &[u32], n: usize, t: usize, at: Places, flat: f64)
     requires { ⌜ LaidFloats (now floats) n t at × LaidWords (now words) n t at ⌝ }
     ensures { λ _. ⌜ Wrote (now (floats .entry)) (now (floats .exit)) (at .right) n
-        (Assembly.rightSide heldValue (tagsIn (now (words .entry)) n at) (pushesIn (now (floats .entry)) (now (words .entry)) n t at) n) ⌝ }
+        (Assembly.rightSide heldValue (tagsIn (now (words .entry)) n at) (pushesIn flat (now (floats .entry)) (now (words .entry)) n t at) n) ⌝ }
 {
     stretch::fill(floats, at.right, n, 0.0);
-    couple_all(floats, words, n, t, at);
+    couple_all(floats, words, n, t, at, flat);
     settle(floats, words, n, at.right, at.tags);
 }

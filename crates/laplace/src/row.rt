@@ -152,15 +152,16 @@ fn add_corner(
     n: usize,
     t: usize,
     at: Places,
+    flat: f64,
     c: usize,
     k: usize,
 ) -> usize
     requires { ⌜ Row.Building (now floats) (now words) n t at k × (c < 3 * t) ⌝ }
     ensures { λ r. ⌜ Row.Written (now (floats .entry)) (now (words .entry)) (now (floats .exit)) (now (words .exit)) (at .row) (at .rowcols) r
-        (Row.added (Row.tagsIn (now (words .entry)) n at) (Row.verticesIn (now (floats .entry)) n at) (Row.cornersIn (now (words .entry)) t at) c (Row.rowIn (now (floats .entry)) (now (words .entry)) at k)) ⌝ }
+        (Row.added (Row.tagsIn (now (words .entry)) n at) flat (Row.verticesIn (now (floats .entry)) n at) (Row.cornersIn (now (words .entry)) t at) c (Row.rowIn (now (floats .entry)) (now (words .entry)) at k)) ⌝ }
 {
     let q = triangle_at(words, at.triangles, t, c / 3, n);
-    let s = stiff_at(floats, at.vertices, n, q);
+    let s = stiff_at(floats, at.vertices, n, flat, q);
     if s.skipped {
         return k;
     }
@@ -169,10 +170,18 @@ fn add_corner(
 }
 
 // The entries of the free vertex r: those of its corners, in rising order.
-fn build(floats: &mut [f64], words: &mut [u32], n: usize, t: usize, at: Places, r: usize) -> usize
+fn build(
+    floats: &mut [f64],
+    words: &mut [u32],
+    n: usize,
+    t: usize,
+    at: Places,
+    flat: f64,
+    r: usize,
+) -> usize
     requires { ⌜ Row.Building (now floats) (now words) n t at 0 × Row.Linked (now words) n t at × (r < n) ⌝ }
     ensures { λ k. ⌜ Row.Written (now (floats .entry)) (now (words .entry)) (now (floats .exit)) (now (words .exit)) (at .row) (at .rowcols) k
-        (Assembly.inserted (Row.tagsIn (now (words .entry)) n at) r (Assembly.pushes (Row.verticesIn (now (floats .entry)) n at) (Row.cornersIn (now (words .entry)) t at)) []) ⌝ }
+        (Assembly.inserted (Row.tagsIn (now (words .entry)) n at) r (Assembly.pushes flat (Row.verticesIn (now (floats .entry)) n at) (Row.cornersIn (now (words .entry)) t at)) []) ⌝ }
 {
     let heads = at.heads;
     let links = at.links;
@@ -181,7 +190,7 @@ fn build(floats: &mut [f64], words: &mut [u32], n: usize, t: usize, at: Places, 
     let mut k = 0;
     while 0 < c {
         let d = c - 1;
-        k = add_corner(floats, words, n, t, at, d, k);
+        k = add_corner(floats, words, n, t, at, flat, d, k);
         let l = links + d;
         c = wide(words[l]);
     }
@@ -195,17 +204,18 @@ pub fn fill_row(
     n: usize,
     t: usize,
     at: Places,
+    flat: f64,
     r: usize,
 ) -> usize
     requires { ⌜ Row.Building (now floats) (now words) n t at 0 × Row.Linked (now words) n t at × (r < n) ⌝ }
     ensures { λ k. ⌜ Row.Written (now (floats .entry)) (now (words .entry)) (now (floats .exit)) (now (words .exit)) (at .row) (at .rowcols) k
-        (Assembly.row (Row.tagsIn (now (words .entry)) n at) (Assembly.pushes (Row.verticesIn (now (floats .entry)) n at) (Row.cornersIn (now (words .entry)) t at)) r) ⌝ }
+        (Assembly.row (Row.tagsIn (now (words .entry)) n at) (Assembly.pushes flat (Row.verticesIn (now (floats .entry)) n at) (Row.cornersIn (now (words .entry)) t at)) r) ⌝ }
 {
     let row = at.row;
     let rowcols = at.rowcols;
     let q = at.tags + r;
     if words[q] == 0 {
-        return build(floats, words, n, t, at, r);
+        return build(floats, words, n, t, at, flat, r);
     }
     floats[row] = 1.0;
     words[rowcols] = r as u32;

@@ -4,7 +4,7 @@ use Rattle.binary64.specs.Arith.{_⊖_, _⊗_}
 use Rattle.plane.specs.declared.Point.{Point}
 use Rattle.mesh.specs.declared.Slope.{Slope}
 
--- 1e-30: a triangle of less twice its area is skipped
+-- 1e-30, the threshold of a run: a triangle of less twice its area is skipped
 abbrev pub flat : Float
 flat = ofBits binary64 0x39b4_484b_feeb_c2a0
 

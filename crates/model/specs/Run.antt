@@ -58,10 +58,10 @@ state f t = record { field = f; trail = t }
 
 -- the matrix and the right side
 unfoldable pub matrixOf : Content → List (List Entry)
-matrixOf c = rows (c .tags) (pushes (c .vertices) (c .triangles)) (vertexCount c)
+matrixOf c = rows (c .tags) (pushes flat (c .vertices) (c .triangles)) (vertexCount c)
 
 unfoldable pub rightOf : Content → List Float
-rightOf c = rightSide heldValue (c .tags) (pushes (c .vertices) (c .triangles)) (vertexCount c)
+rightOf c = rightSide heldValue (c .tags) (pushes flat (c .vertices) (c .triangles)) (vertexCount c)
 
 -- ---- place 0
 

@@ -80,13 +80,13 @@ length-settled value (t ∷ ts) (y ∷ ys) = ap suc (length-settled value ts ys)
 
 pub matrix-length : (c : Content) → length (matrixOf c) ≡ vertexCount c
 unfolding matrixOf
-matrix-length c = length-rows (c .tags) (pushes (c .vertices) (c .triangles)) (vertexCount c)
+matrix-length c = length-rows (c .tags) (pushes flat (c .vertices) (c .triangles)) (vertexCount c)
 
 pub right-length : (c : Content) → length (rightOf c) ≡ vertexCount c
 unfolding rightOf rightSide
 right-length c =
     length-settled heldValue (c .tags) _
-    ∙ length-allCoupled heldValue (c .tags) (pushes (c .vertices) (c .triangles)) (replicate (vertexCount c) plusZero)
+    ∙ length-allCoupled heldValue (c .tags) (pushes flat (c .vertices) (c .triangles)) (replicate (vertexCount c) plusZero)
     ∙ length-replicate (vertexCount c) plusZero
 
 zipped : (f : Float → Float → Float) (us vs : List Float) (n : ℕ) → length us ≡ n → length vs ≡ n → length (zipWith f us vs) ≡ n

@@ -15,6 +15,7 @@ use Rattle.stretch.specs.Stretch.{part, splice, flat, off}
 use Rattle.stretch.specs.StretchLaws.{length-splice, part-splice-same}
 use Rattle.stretch.specs.SegmentLaws.{part-seg, splice-seg, splice-segs}
 use Rattle.mesh.specs.Mesh.{heldValue}
+use Rattle.mesh.specs.Element as element
 use Rattle.laplace.specs.declared.Places.{Places}
 use Rattle.laplace.specs.Assembly.{rightSide}
 use Rattle.laplace.specs.Laid.{LaidFloats, LaidWords}
@@ -357,17 +358,17 @@ module _ (c : Content) (good : InRange c) (floats : List Float) (words : List �
         corners = rw (corners-loaded c (sized c good) words words-fit) (below-each n′ (c .triangles) (good .corners) .1);
       }
 
-  matrix-assembled : rowsFor (meshFloats c floats) (meshWords c words) n′ t′ places n′ ≡ matrixOf c
+  matrix-assembled : rowsFor element.flat (meshFloats c floats) (meshWords c words) n′ t′ places n′ ≡ matrixOf c
   unfolding matrixOf
   matrix-assembled = rw (vertices-loaded, corners-loaded c (sized c good) words words-fit, tags-loaded c (sized c good) words words-fit)
 
-  right-assembled : rightSide heldValue (tagsIn (meshWords c words) n′ places) (pushesIn (meshFloats c floats) (meshWords c words) n′ t′ places) n′ ≡ rightOf c
+  right-assembled : rightSide heldValue (tagsIn (meshWords c words) n′ places) (pushesIn element.flat (meshFloats c floats) (meshWords c words) n′ t′ places) n′ ≡ rightOf c
   unfolding rightOf
   right-assembled = rw (vertices-loaded, corners-loaded c (sized c good) words words-fit, tags-loaded c (sized c good) words words-fit)
 
   pub laid-out : (floats′ : List Float) (words′ : List ℕ) (k : ℕ)
-      → Assembled (meshFloats c floats) (meshWords c words) floats′ words′ n′ t′ places k (rowsFor (meshFloats c floats) (meshWords c words) n′ t′ places n′)
-      (rightSide heldValue (tagsIn (meshWords c words) n′ places) (pushesIn (meshFloats c floats) (meshWords c words) n′ t′ places) n′)
+      → Assembled (meshFloats c floats) (meshWords c words) floats′ words′ n′ t′ places k (rowsFor element.flat (meshFloats c floats) (meshWords c words) n′ t′ places n′)
+      (rightSide heldValue (tagsIn (meshWords c words) n′ places) (pushesIn element.flat (meshFloats c floats) (meshWords c words) n′ t′ places) n′)
       → LaidOut c floats words floats′ words′
   unfolding assembledFloats
   laid-out floats′ words′ k a = record {

@@ -15,6 +15,7 @@ use Rattle.stretch.specs.Stretch.{splice}
 use Rattle.stretch.specs.StretchLaws.{part-zero, part-take, splice-one, splice-is}
 use Rattle.sparse.specs.declared.Csr.{Csr}
 use Rattle.mesh.specs.Mesh.{heldValue}
+use Rattle.mesh.specs.Element.{flat}
 use Rattle.laplace.specs.declared.Places.{Places}
 use Rattle.laplace.specs.Assembly.{rightSide}
 use Rattle.laplace.specs.Laid.{LaidFloats, LaidWords}
@@ -89,8 +90,8 @@ module _ (sheet : List ℕ) (h : Header) (read : Read sheet h) (floats : List Fl
       (lays-floats mesh (read .good) floats words floats-fit words-fit, lays-words mesh (read .good) floats words floats-fit words-fit)
 
   pub lays-out : (floats′ : List Float) (words′ : List ℕ) (k : ℕ)
-      → Assembled floats₁ words₁ floats′ words′ (h .n) (h .t) places k (rowsFor floats₁ words₁ (h .n) (h .t) places (h .n))
-      (rightSide heldValue (tagsIn words₁ (h .n) places) (pushesIn floats₁ words₁ (h .n) (h .t) places) (h .n))
+      → Assembled floats₁ words₁ floats′ words′ (h .n) (h .t) places k (rowsFor flat floats₁ words₁ (h .n) (h .t) places (h .n))
+      (rightSide heldValue (tagsIn words₁ (h .n) places) (pushesIn flat floats₁ words₁ (h .n) (h .t) places) (h .n))
       → LaidOut mesh floats words floats′ words′
   lays-out floats′ words′ k a = laid-out mesh (read .good) floats words floats-fit words-fit floats′ words′ k (rw (e, n-is read, t-is read, l .floats-are, l .words-are) at a)
 

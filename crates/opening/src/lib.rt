@@ -163,7 +163,7 @@ fn lay_out(sheet: &[u8], h: Header, floats: &mut [f64], words: &mut [u32])
     let t = h.t;
     load(sheet, h, floats, words);
     let at = places_at(n, t);
-    laplace::assemble(floats, words, n, t, at);
+    laplace::assemble(floats, words, n, t, at, Run::TINY);
 }
 
 // Place 0 of the field: nothing kept, no gradients, the vectors begun, and the first norm. Answers r·r.

@@ -17,11 +17,11 @@ fill-matrix-requires c κs = let pre = c .before .before .before .before .before
 
 unlink-requires : tie.Need-unlink-requires
 unlink-requires c κs = let pre = c .before .before .before .before .before .before .before .before .before .before .before .before .before .before .before .before .before .before .before .before .before .pre in
-    unlink-laid _ _ _ _ _ (pre .0) (pre .1) _ _ (c .before .before .before .before .before .before .before .before .before .before .before .before .before .before .before .before .clear .ensures) _ (c .before .before .before .before .before .before .before .before .before .before .link .ensures) _ _ _ (c .before .before .before .before .before .fill-matrix .ensures)
+    unlink-laid _ _ _ _ _ (pre .0) (pre .1) _ _ (c .before .before .before .before .before .before .before .before .before .before .before .before .before .before .before .before .clear .ensures) _ (c .before .before .before .before .before .before .before .before .before .before .link .ensures) _ _ _ _ (c .before .before .before .before .before .fill-matrix .ensures)
 
 right-side-requires : tie.Need-right-side-requires
 right-side-requires c κs = let pre = c .before .before .before .before .before .before .before .before .before .before .before .before .before .before .before .before .before .before .before .before .before .before .before .before .before .before .pre in
-    right-laid _ _ _ _ _ (pre .0) (pre .1) _ _ (c .before .before .before .before .before .before .before .before .before .before .before .before .before .before .before .before .before .before .before .before .before .clear .ensures) _ (c .before .before .before .before .before .before .before .before .before .before .before .before .before .before .before .link .ensures) _ _ _ (c .before .before .before .before .before .before .before .before .before .before .fill-matrix .ensures) _ (c .before .before .before .before .unlink .ensures)
+    right-laid _ _ _ _ _ (pre .0) (pre .1) _ _ (c .before .before .before .before .before .before .before .before .before .before .before .before .before .before .before .before .before .before .before .before .before .clear .ensures) _ (c .before .before .before .before .before .before .before .before .before .before .before .before .before .before .before .link .ensures) _ _ _ _ (c .before .before .before .before .before .before .before .before .before .before .fill-matrix .ensures) _ (c .before .before .before .before .unlink .ensures)
 
 same-length : tie.Need-same-length
 same-length c = search needs
@@ -31,7 +31,7 @@ same-length-2 c = search needs
 
 returns : tie.Need-returns
 returns c = let pre = c .before .before .before .before .before .before .before .before .before .before .before .before .before .before .before .before .before .before .before .before .before .before .before .before .before .before .before .before .before .pre in
-    assembled _ _ _ _ _ (pre .0) (pre .1) _ _ (c .before .before .before .before .before .before .before .before .before .before .before .before .before .before .before .before .before .before .before .before .before .before .before .before .clear .ensures) _ (c .before .before .before .before .before .before .before .before .before .before .before .before .before .before .before .before .before .before .link .ensures) _ _ _ (c .before .before .before .before .before .before .before .before .before .before .before .before .before .fill-matrix .ensures) _ (c .before .before .before .before .before .before .before .unlink .ensures) _ (c .before .before .right-side .ensures)
+    assembled _ _ _ _ _ (pre .0) (pre .1) _ _ (c .before .before .before .before .before .before .before .before .before .before .before .before .before .before .before .before .before .before .before .before .before .before .before .before .clear .ensures) _ (c .before .before .before .before .before .before .before .before .before .before .before .before .before .before .before .before .before .before .link .ensures) _ _ _ _ (c .before .before .before .before .before .before .before .before .before .before .before .before .before .fill-matrix .ensures) _ (c .before .before .before .before .before .before .before .unlink .ensures) _ (c .before .before .right-side .ensures)
 
 pub assemble-spec : {M : Type 1} → statement M
 assemble-spec =

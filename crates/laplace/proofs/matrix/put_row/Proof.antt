@@ -8,7 +8,7 @@ fill-row-requires : tie.Need-fill-row-requires
 fill-row-requires c κs = let pre = c .before .before .before .before .pre in (row-starts _ _ _ _ _ (pre .0), pre .0 .linked, pre .1)
 
 append-requires : tie.Need-append-requires
-append-requires c κs = let pre = c .before .before .before .before .before .before .before .before .before .before .before .pre in row-appends _ _ _ _ _ (pre .0) _ _ (pre .1) (pre .2) _ _ _ (c .before .before .before .before .before .before .fill-row .ensures)
+append-requires c κs = let pre = c .before .before .before .before .before .before .before .before .before .before .before .pre in row-appends _ _ _ _ _ (pre .0) _ _ _ (pre .1) (pre .2) _ _ _ (c .before .before .before .before .before .before .fill-row .ensures)
 
 add-end : tie.Need-add-end
 add-end c = search needs
@@ -32,10 +32,10 @@ same-length : tie.Need-same-length
 same-length c = search needs
 
 same-length-2 : tie.Need-same-length-2
-same-length-2 c = let pre = c .before .before .before .before .before .before .before .before .before .before .before .before .before .before .before .before .before .pre in row-long _ _ _ _ _ _ _ _ _ (row-put _ _ _ _ _ (pre .0) _ _ (pre .1) (pre .2) _ _ _ (c .before .before .before .before .before .before .before .before .before .before .before .before .fill-row .ensures) _ _ (c .before .before .before .before .before .append .ensures))
+same-length-2 c = let pre = c .before .before .before .before .before .before .before .before .before .before .before .before .before .before .before .before .before .pre in row-long _ _ _ _ _ _ _ _ _ (row-put _ _ _ _ _ (pre .0) _ _ _ (pre .1) (pre .2) _ _ _ (c .before .before .before .before .before .before .before .before .before .before .before .before .fill-row .ensures) _ _ (c .before .before .before .before .before .append .ensures))
 
 returns : tie.Need-returns
-returns c = let pre = c .before .before .before .before .before .before .before .before .before .before .before .before .before .before .before .before .before .pre in row-put _ _ _ _ _ (pre .0) _ _ (pre .1) (pre .2) _ _ _ (c .before .before .before .before .before .before .before .before .before .before .before .before .fill-row .ensures) _ _ (c .before .before .before .before .before .append .ensures)
+returns c = let pre = c .before .before .before .before .before .before .before .before .before .before .before .before .before .before .before .before .before .pre in row-put _ _ _ _ _ (pre .0) _ _ _ (pre .1) (pre .2) _ _ _ (c .before .before .before .before .before .before .before .before .before .before .before .before .fill-row .ensures) _ _ (c .before .before .before .before .before .append .ensures)
 
 pub put-row-spec : {M : Type 1} → statement M
 put-row-spec =

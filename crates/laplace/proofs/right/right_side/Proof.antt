@@ -18,7 +18,7 @@ same-length c = search needs
 
 returns : tie.Need-returns
 returns c = let pre = c .before .before .before .before .before .before .before .before .before .before .before .before .before .before .pre in
-    right-wrote _ _ _ _ _ (pre .0) (pre .1) _ (c .before .before .before .before .before .before .before .before .before .before .fill .ensures) _ (c .before .before .before .before .before .before .couple-all .ensures) _ (c .before .before .settle .ensures)
+    right-wrote _ _ _ _ _ (pre .0) (pre .1) _ (c .before .before .before .before .before .before .before .before .before .before .fill .ensures) _ _ (c .before .before .before .before .before .before .couple-all .ensures) _ (c .before .before .settle .ensures)
 
 pub right-side-spec : {M : Type 1} → statement M
 right-side-spec =

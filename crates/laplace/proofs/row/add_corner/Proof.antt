@@ -18,7 +18,7 @@ same-length-2 : tie.Need-same-length-2
 same-length-2 c = search needs
 
 returns : tie.Need-returns
-returns c = written-skipped _ _ _ _ _ _ (c .before .before .before .before .before .before .before .pre .0) _ _ _ (c .before .before .before .triangle-at .ensures .0) (c .before .stiff-at .ensures) (c .if1 .taken)
+returns c = written-skipped _ _ _ _ _ _ (c .before .before .before .before .before .before .before .pre .0) _ _ _ _ (c .before .before .before .triangle-at .ensures .0) (c .before .stiff-at .ensures) (c .if1 .taken)
 
 side-of-requires : tie.Need-side-of-requires
 side-of-requires c κs = search needs
@@ -33,7 +33,7 @@ same-length-4 : tie.Need-same-length-4
 same-length-4 c = search needs
 
 returns-2 : tie.Need-returns-2
-returns-2 c = written-corner _ _ _ _ _ _ (c .before .before .before .before .before .before .before .before .before .before .before .before .before .before .before .pre .0) _ _ _ (c .before .before .before .before .before .before .before .before .before .before .before .triangle-at .ensures .0) (c .before .before .before .before .before .before .before .before .before .stiff-at .ensures) (c .before .before .before .before .before .before .before .before .if1 .left) _ _ _ _ (c .before .before .before .before .before .before .before .side-of .ensures) (c .before .before .before .before .place-three .ensures)
+returns-2 c = written-corner _ _ _ _ _ _ (c .before .before .before .before .before .before .before .before .before .before .before .before .before .before .before .pre .0) _ _ _ _ (c .before .before .before .before .before .before .before .before .before .before .before .triangle-at .ensures .0) (c .before .before .before .before .before .before .before .before .before .stiff-at .ensures) (c .before .before .before .before .before .before .before .before .if1 .left) _ _ _ _ (c .before .before .before .before .before .before .before .side-of .ensures) (c .before .before .before .before .place-three .ensures)
 
 pub add-corner-spec : {M : Type 1} → statement M
 add-corner-spec =

@@ -10,10 +10,10 @@ use Rattle.laplace.proofs.row.build.Statement.{statement}
 use Rattle.laplace.proofs.row.build.Tie as tie
 
 abbrev Inv-loop : tie.InvT-loop
-Inv-loop floats₀ words₀ n t at r heads links h c₀ k₀ floats words c k = Walking floats₀ words₀ floats words n t at r k c
+Inv-loop floats₀ words₀ n t at flat r heads links h c₀ k₀ floats words c k = Walking floats₀ words₀ floats words n t at flat r k c
 
 abbrev μ-loop : tie.MeasureT-loop
-μ-loop floats₀ words₀ n t at r heads links h c₀ k₀ floats words c k = ahead (3 * t) c
+μ-loop floats₀ words₀ n t at flat r heads links h c₀ k₀ floats words c k = ahead (3 * t) c
 
 add-h : tie.Need-add-h Inv-loop μ-loop
 add-h c = search needs
@@ -28,7 +28,7 @@ wide-requires : tie.Need-wide-requires Inv-loop μ-loop
 wide-requires c κs = search needs
 
 loop-holds : tie.Need-loop-holds Inv-loop μ-loop
-loop-holds c = let pre = c .before .before .before .before .pre in walk-none _ _ _ _ _ _ (pre .0) (pre .1) (pre .2) _ (c .wide .ensures)
+loop-holds c = let pre = c .before .before .before .before .pre in walk-none _ _ _ _ _ _ _ (pre .0) (pre .1) (pre .2) _ (c .wide .ensures)
 
 sub-d : tie.Need-sub-d Inv-loop μ-loop
 sub-d c = search needs
@@ -53,11 +53,11 @@ wide-requires-2 c κs = search needs
 
 loop-less : tie.Need-loop-less Inv-loop μ-loop
 loop-less c = let pre = c .before .before .before .before .before .before .before .before .before .before .before .before .before .before .before .pre in
-    walk-less _ _ _ _ _ _ (pre .0) (pre .1) (pre .2) _ _ _ _ (c .before .before .before .before .before .before .before .before .before .before .loop .inv) (c .before .before .before .before .before .before .before .before .before .loop-test .taken) _ _ _ (c .before .before .before .before .before .before .add-corner .ensures) _ (c .wide2 .ensures)
+    walk-less _ _ _ _ _ _ _ (pre .0) (pre .1) (pre .2) _ _ _ _ (c .before .before .before .before .before .before .before .before .before .before .loop .inv) (c .before .before .before .before .before .before .before .before .before .loop-test .taken) _ _ _ (c .before .before .before .before .before .before .add-corner .ensures) _ (c .wide2 .ensures)
 
 loop-again : tie.Need-loop-again Inv-loop μ-loop
 loop-again c = let pre = c .before .before .before .before .before .before .before .before .before .before .before .before .before .before .before .pre in
-    walk-again _ _ _ _ _ _ (pre .0) (pre .1) (pre .2) _ _ _ _ (c .before .before .before .before .before .before .before .before .before .before .loop .inv) (c .before .before .before .before .before .before .before .before .before .loop-test .taken) _ _ _ (c .before .before .before .before .before .before .add-corner .ensures) _ (c .wide2 .ensures)
+    walk-again _ _ _ _ _ _ _ (pre .0) (pre .1) (pre .2) _ _ _ _ (c .before .before .before .before .before .before .before .before .before .before .loop .inv) (c .before .before .before .before .before .before .before .before .before .loop-test .taken) _ _ _ (c .before .before .before .before .before .before .add-corner .ensures) _ (c .wide2 .ensures)
 
 same-length : tie.Need-same-length Inv-loop μ-loop
 same-length c = floats-long _ _ _ _ _ _ _ _ (c .before .loop .inv .written)
@@ -67,7 +67,7 @@ same-length-2 c = words-long _ _ _ _ _ _ _ _ (c .before .loop .inv .written)
 
 returns : tie.Need-returns Inv-loop μ-loop
 returns c = let pre = c .before .before .before .before .before .before .pre in
-    walk-done _ _ _ _ _ _ (pre .0) (pre .1) (pre .2) _ _ _ _ (omega arith) (c .before .loop .inv)
+    walk-done _ _ _ _ _ _ _ (pre .0) (pre .1) (pre .2) _ _ _ _ (omega arith) (c .before .loop .inv)
 
 pub build-spec : {M : Type 1} → statement M
 build-spec =
