@@ -6,6 +6,5 @@ pub mod Pieces
 pub mod RootGuess
 pub mod RootLaws
 pub mod RootOrder
-pub mod RootSamples
 pub mod Units
 pub mod WholeRoot

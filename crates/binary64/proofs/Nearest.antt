@@ -1,5 +1,4 @@
--- `root` is the square root of IEEE 754-2019, 5.4.1, for every value: NaN and negatives give NaN, zeros and +infinity themselves, and any other value the nearest double.
--- That is: the operand lies strictly between the squares of the two midpoints beside the root (`root-between`), and of no other double is that true (`root-only`). Assumes nothing.
+-- `root` gives the nearest double: the two statements of specs/RootTheorems.antt, `RootBetween` and `RootOnly`. Assumes nothing.
 use mathlib.Core.Path.{_≡_, refl, sym, ap, _∙_, subst}
 use mathlib.Core.Bool.{Bool, true, false}
 use Prim.Native.Nat.{ℕ, zero, suc, _+_, _-_, _*_, _/_, _%_, _^_, _≤_, _<_}
@@ -12,6 +11,8 @@ use lib.Ieee.{Float, nan, inf, fin, binary64, size, fits, ofBits, toBits}
 use lib.Ieee.Bits.{ofBits-toBits, ofBits-fits}
 use lib.Ieee.Fits.{nan-fits}
 use Rattle.binary64.specs.Root.{root, rootOf, rootPattern, wholeRoot, units, weight, square, Between}
+pub use Rattle.binary64.specs.RootTheorems.{root-infinity}
+use Rattle.binary64.specs.RootTheorems.{RootBetween, RootOnly}
 use Rattle.binary64.proofs.WholeRoot.{root-lt, whole-root-low, whole-root-high, whole-root-lt}
 use Rattle.binary64.proofs.Units.{units-is, units-next, units-at, units-after, between-only}
 use Rattle.binary64.proofs.Patterns.{pattern-range}
@@ -164,27 +165,7 @@ fields-between b (suc f) t p q h =
 
 -- ---- the theorems
 
-pub root-nan : root nan ≡ nan
-unfolding root
-root-nan = refl
-
-pub root-infinity : root (inf false) ≡ inf false
-unfolding root
-root-infinity = refl
-
-pub root-negative-infinity : root (inf true) ≡ nan
-unfolding root
-root-negative-infinity = refl
-
-pub root-zero : (s : Bool) (e : ℤ) → root (fin s zero e) ≡ fin s zero e
-unfolding root
-root-zero s e = refl
-
-pub root-negative : (m : ℕ) (e : ℤ) → root (fin true (suc m) e) ≡ nan
-unfolding root
-root-negative m e = refl
-
-pub root-between : (m : ℕ) (e : ℤ) → T (fits binary64 (fin false (suc m) e)) → Between (toBits binary64 (fin false (suc m) e)) (toBits binary64 (root (fin false (suc m) e)))
+pub root-between : RootBetween
 root-between m e h =
     let x = fin false (suc m) e in
     let b = toBits binary64 x in
@@ -202,8 +183,7 @@ root-fits (fin s zero e) h = h
 root-fits (fin true (suc m) e) h = nan-fits binary64
 root-fits (fin false (suc m) e) h = ofBits-fits binary64 (rootOf (toBits binary64 (fin false (suc m) e) / 2 ^ 52) (toBits binary64 (fin false (suc m) e) % 2 ^ 52))
 
-pub root-only : (m : ℕ) (e : ℤ) → T (fits binary64 (fin false (suc m) e)) → (y : Float) → T (fits binary64 y)
-    → Between (toBits binary64 (fin false (suc m) e)) (toBits binary64 y) → y ≡ root (fin false (suc m) e)
+pub root-only : RootOnly
 root-only m e h y k b =
     let x = fin false (suc m) e in
     let p : toBits binary64 y ≡ toBits binary64 (root x) = between-only (toBits binary64 x) (toBits binary64 y) (toBits binary64 (root x)) b (root-between m e h) in

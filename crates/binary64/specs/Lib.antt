@@ -3,3 +3,4 @@ pub mod Constants
 pub mod Number
 pub mod NumberLaws
 pub mod Root
+pub mod RootTheorems

@@ -1,5 +1,5 @@
 -- The square root of binary64 (IEEE 754-2019, 5.4.1): the double nearest to it, worked out from the exponent's field and the digits below it. Definitions only.
--- `root` is what the function computes. `Between` says, in whole numbers, that a pattern is the nearest one; proofs/Nearest.antt shows that `root` gives it and that no other does.
+-- `root` is what the function computes. `Between` says, in whole numbers, that a pattern is the nearest one; RootTheorems.antt states that `root` gives it and that no other does.
 -- Assumes nothing.
 use Prim.Native.Nat.{ℕ, zero, suc, _+_, _-_, _*_, _/_, _%_, _^_, _<_}
 use mathlib.Core.Bool.{true, false}

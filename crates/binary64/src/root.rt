@@ -1,7 +1,7 @@
 // The square root of an f64 (IEEE 754-2019, 5.4.1): a guess in floats, returned where a remainder
 // shows that it is the root. Elsewhere the root is found on bit patterns, from the guess by a
 // remainder, or digit by digit.
-// `root` is the definition; the double that it gives is the nearest one (proofs/Nearest.antt).
+// `root` is the definition; the double that it gives is the nearest one (specs/RootTheorems.antt).
 
 ghost use mathlib.Core.Path.{_≡_};
 ghost use mathlib.Core.Bool.{true};
