@@ -1,8 +1,6 @@
-// The spiral: where it starts, where it leaves a triangle, and one crossing.
-pub mod begin;
+// The spiral: where it leaves a triangle, and one crossing.
 pub mod cross;
 pub mod edges;
-pub mod path;
 
 use plane::Point;
 

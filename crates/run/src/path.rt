@@ -20,5 +20,5 @@ pub fn points(run: Run, path: &[f64]) -> &[f64]
 pub fn length(path: &[f64]) -> f64
     ensures { λ r. ⌜ r ≡ lengthOf (now (path .entry)) ⌝ }
 {
-    pde::path::length(path)
+    tracing::path::length(path)
 }

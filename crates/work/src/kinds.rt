@@ -100,8 +100,8 @@ fn find_start(front: &[f64], words: &[u32], plan: Plan) -> Start
     let u = layout::at_x(plan.n, plan.t);
     let given = plan.start;
     match given {
-        Given::At(p) => pde::begin::find_triangle_containing(front, words, m, p),
-        Given::Nothing => pde::begin::pick_start(front, words, m, u),
+        Given::At(p) => tracing::begin::find_triangle_containing(front, words, m, p),
+        Given::Nothing => tracing::begin::pick_start(front, words, m, u),
     }
 }
 
@@ -211,7 +211,7 @@ pub fn crossed(plan: Plan, stand: Stand, c: Crossing) -> Stand
     let made = stand.crossings + 1;
     let last = is_last(made, plan.t);
     let walk = stand.walk;
-    let next = pde::path::after(plan.room, last, walk, c);
+    let next = tracing::path::after(plan.room, last, walk, c);
     walked_stand(stand, next, made)
 }
 

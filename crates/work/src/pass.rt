@@ -38,7 +38,7 @@ pub fn deliver(floats: &mut [f64], path: &mut [f64], plan: Plan, stand: Stand, g
         }
         Gives::Crossed(c) => {
             let walk = stand.walk;
-            pde::path::put_added(path, plan.room, walk, c);
+            tracing::path::put_added(path, plan.room, walk, c);
         }
     }
 }
@@ -63,7 +63,7 @@ fn cross(floats: &[f64], words: &[u32], path: &mut [f64], plan: Plan, stand: Sta
     let walk = stand.walk;
     let from = walk.position;
     let c = crate::kinds::crossing_of(&floats[..f], words, plan, from, walk.triangle, walk.edge);
-    pde::path::put_added(path, plan.room, walk, c);
+    tracing::path::put_added(path, plan.room, walk, c);
     crate::kinds::crossed(plan, stand, c)
 }
 

@@ -1,0 +1,3 @@
+pub mod PointLaws
+pub mod LengthLaws
+pub mod StartLaws
