@@ -1,6 +1,4 @@
 // The run: opening a sheet, the four calls, and what they show.
-mod parts;
-mod path;
 mod replaying;
 
 pub use calls::advance;
@@ -10,11 +8,11 @@ pub use calls::return_to_mark;
 pub use image::Answer;
 pub use image::Opened;
 pub use opening::open;
-pub use parts::field;
-pub use parts::gradients;
-pub use parts::norms;
-pub use path::length;
-pub use path::points;
 pub use replaying::make;
 pub use replaying::perform;
 pub use replaying::replay;
+pub use showing::field;
+pub use showing::gradients;
+pub use showing::length;
+pub use showing::norms;
+pub use showing::points;

@@ -1,9 +1,9 @@
--- `run::parts::within` meets its contract. Assumes nothing.
+-- `showing::parts::within` meets its contract. Assumes nothing.
 use native.Mathlib.Omega.{arith}
 use borrow.Author.Needs.{needs}
-use Rattle.run.proofs.LawsParts.{within-none, within-all}
-use Rattle.run.proofs.parts.within.Statement.{statement}
-use Rattle.run.proofs.parts.within.Tie as tie
+use Rattle.showing.proofs.LawsParts.{within-none, within-all}
+use Rattle.showing.proofs.parts.within.Statement.{statement}
+use Rattle.showing.proofs.parts.within.Tie as tie
 
 slice-aggregate-result : tie.Need-slice-aggregate-result
 slice-aggregate-result c = search needs

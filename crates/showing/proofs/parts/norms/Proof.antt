@@ -1,11 +1,11 @@
--- `run::parts::norms` meets its contract. Assumes nothing.
+-- `showing::parts::norms` meets its contract. Assumes nothing.
 use mathlib.Core.Path.{_∙_}
 use native.Mathlib.Omega.{arith}
 use borrow.Author.Needs.{needs}
 use Rattle.image.specs.Parts.{normsOf}
-use Rattle.run.proofs.LawsParts.{many-vertices, many-triangles, counted-all}
-use Rattle.run.proofs.parts.norms.Statement.{statement}
-use Rattle.run.proofs.parts.norms.Tie as tie
+use Rattle.showing.proofs.LawsParts.{many-vertices, many-triangles, counted-all}
+use Rattle.showing.proofs.parts.norms.Statement.{statement}
+use Rattle.showing.proofs.parts.norms.Tie as tie
 
 slice-aggregate-result : tie.Need-slice-aggregate-result
 slice-aggregate-result c = search needs

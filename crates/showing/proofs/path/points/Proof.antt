@@ -1,4 +1,4 @@
--- `run::path::points` meets its contract: half the buffer's length is at least the count where twice the count is within it. Assumes nothing.
+-- `showing::path::points` meets its contract: half the buffer's length is at least the count where twice the count is within it. Assumes nothing.
 use Prim.Native.Nat.{_*_, _≤_, _<_}
 use mathlib.Core.Path.{sym}
 use native.Mathlib.Omega.{arith}
@@ -7,8 +7,8 @@ use lib.ListN.{length}
 use lib.Seq.{length-take-le}
 use Rattle.image.specs.Points.{pointsOf}
 use borrow.Author.Needs.{needs}
-use Rattle.run.proofs.path.points.Statement.{statement}
-use Rattle.run.proofs.path.points.Tie as tie
+use Rattle.showing.proofs.path.points.Statement.{statement}
+use Rattle.showing.proofs.path.points.Tie as tie
 
 slice-aggregate-result : tie.Need-slice-aggregate-result
 slice-aggregate-result c = search needs

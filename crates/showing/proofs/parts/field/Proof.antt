@@ -1,11 +1,11 @@
--- `run::parts::field` meets its contract. Assumes nothing.
+-- `showing::parts::field` meets its contract. Assumes nothing.
 use mathlib.Core.Path.{_∙_}
 use native.Mathlib.Omega.{arith}
 use borrow.Author.Needs.{needs}
 use Rattle.image.specs.Parts.{fieldOf}
-use Rattle.run.proofs.LawsParts.{many-vertices, many-triangles, counted-all}
-use Rattle.run.proofs.parts.field.Statement.{statement}
-use Rattle.run.proofs.parts.field.Tie as tie
+use Rattle.showing.proofs.LawsParts.{many-vertices, many-triangles, counted-all}
+use Rattle.showing.proofs.parts.field.Statement.{statement}
+use Rattle.showing.proofs.parts.field.Tie as tie
 
 slice-aggregate-result : tie.Need-slice-aggregate-result
 slice-aggregate-result c = search needs
