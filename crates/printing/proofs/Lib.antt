@@ -1,0 +1,2 @@
+pub mod LawsText
+pub mod LawsLast

@@ -1,0 +1,82 @@
+// What `spiral` prints of a sheet (document 01, Length, writer, program): the text of its run at the last place, or of the refusal.
+use run::Opened;
+use work::Run;
+ghost use mathlib.Core.Path.{_≡_};
+ghost use Prim.Native.Nat.{_≤_};
+ghost use lib.ListN.{length};
+ghost use Rattle.image.specs.Calls.{buffers};
+ghost use Rattle.text.specs.Put.{Printed};
+ghost use Rattle.printing.specs.Printed as Text;
+ghost use Rattle.printing.specs.Steps as Steps;
+
+// The most bytes of a sheet, and the places of the buffers: floats, whole numbers, x and y of each point.
+pub const SHEET: usize = 65536;
+
+const FLOATS: usize = 8192;
+
+const WORDS: usize = 16384;
+
+const PATH: usize = 8192;
+
+// More than the text of lists that stand in such buffers: 67 + 37 · (8,192 + 8,192) bytes at the most.
+pub const TEXT: usize = 655360;
+
+// What a run shows.
+fn put_shown(out: &mut [u8], run: Run, floats: &[f64], path: &[f64]) -> usize
+    requires { ⌜ Steps.Room (now floats) (now path) (now out) ⌝ }
+    ensures { λ r. ⌜ Printed (now (out .entry)) 0 (Steps.shownText run (now (floats .entry)) (now (path .entry))) r (now (out .exit)) ⌝ }
+{
+    let us = run::field(run, floats);
+    let rs = run::norms(run, floats);
+    let gs = run::gradients(run, floats);
+    let ps = run::points(run, path);
+    let s = run.stand;
+    let walk = s.walk;
+    text::put_run(
+        out,
+        0,
+        s.place as u64,
+        s.end as u64,
+        walk.end as u64,
+        us,
+        rs,
+        gs,
+        ps,
+    )
+}
+
+// At the last place: no run has more places than an advance may ask for.
+fn put_last(
+    out: &mut [u8],
+    opened: Run,
+    floats: &mut [f64],
+    words: &[u32],
+    path: &mut [f64],
+) -> usize
+    requires { ⌜ Steps.Room (now floats) (now path) (now out) ⌝ }
+    ensures { λ r. ⌜ Printed (now (out .entry)) 0 (Steps.lastText opened (buffers (now (floats .entry)) (now (words .entry)) (now (path .entry)))) r (now (out .exit)) ⌝ }
+{
+    let answer = run::advance(opened, 4294967295, floats, words, path);
+    if answer.refused != 0 {
+        return text::put_refused(out, 0, answer.refused as u64);
+    }
+    let last = answer.run;
+    put_shown(out, last, floats, path)
+}
+
+// The text, from the front of the lent bytes on. Answers how many bytes it has.
+pub fn print_sheet(sheet: &[u8], out: &mut [u8; TEXT]) -> usize
+    ensures { λ r. ⌜ Printed (now (out .entry)) 0 (Text.printed (now (sheet .entry))) r (now (out .exit)) ⌝ }
+{
+    if SHEET < sheet.len() {
+        return text::put_refused(out, 0, 8);
+    }
+    let mut floats = [0.0; FLOATS];
+    let mut words = [0u32; WORDS];
+    let mut path = [0.0; PATH];
+    let opened = run::open(sheet, &mut floats, &mut words, &mut path);
+    match opened {
+        Opened::Refused(k) => text::put_refused(out, 0, k as u64),
+        Opened::Open(r) => put_last(out, r, &mut floats, &words, &mut path),
+    }
+}
