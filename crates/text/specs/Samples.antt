@@ -46,8 +46,9 @@ gs = float 0x3fe0_0000_0000_0000 ∷ float 0x0000_0000_0000_0000 ∷ []
 abbrev ps : List Float
 ps = float 0x3fe0_0000_0000_0000 ∷ float 0x3fe0_0000_0000_0000 ∷ float 0x3fe0_0000_0000_0000 ∷ float 0x3fe6_6666_6666_6666 ∷ float 0x3fe0_0000_0000_0000 ∷ float 0x3fec_cccc_cccc_cccd ∷ float 0x3fe0_0000_0000_0000 ∷ float 0x3ff1_9999_9999_999a ∷ float 0x3fe0_0000_0000_0000 ∷ float 0x3ff4_cccc_cccc_cccd ∷ []
 
-s1-text : runText 3 1 3 us rs gs ps
-    ≡ 101 ∷ 110 ∷ 100 ∷ 32 ∷ 51 ∷ 32 ∷ 49 ∷ 32 ∷ 51 ∷ 10
+abbrev pub s1Text : List ℕ
+s1Text =
+    101 ∷ 110 ∷ 100 ∷ 32 ∷ 51 ∷ 32 ∷ 49 ∷ 32 ∷ 51 ∷ 10
     ∷ 117 ∷ 32 ∷ 48 ∷ 48 ∷ 48 ∷ 48 ∷ 48 ∷ 48 ∷ 48 ∷ 48 ∷ 48 ∷ 48 ∷ 48 ∷ 48 ∷ 48 ∷ 48 ∷ 48 ∷ 48 ∷ 10
     ∷ 117 ∷ 32 ∷ 51 ∷ 102 ∷ 102 ∷ 48 ∷ 48 ∷ 48 ∷ 48 ∷ 48 ∷ 48 ∷ 48 ∷ 48 ∷ 48 ∷ 48 ∷ 48 ∷ 48 ∷ 48 ∷ 10
     ∷ 117 ∷ 32 ∷ 48 ∷ 48 ∷ 48 ∷ 48 ∷ 48 ∷ 48 ∷ 48 ∷ 48 ∷ 48 ∷ 48 ∷ 48 ∷ 48 ∷ 48 ∷ 48 ∷ 48 ∷ 48 ∷ 10
@@ -60,5 +61,7 @@ s1-text : runText 3 1 3 us rs gs ps
     ∷ 112 ∷ 32 ∷ 51 ∷ 102 ∷ 101 ∷ 48 ∷ 48 ∷ 48 ∷ 48 ∷ 48 ∷ 48 ∷ 48 ∷ 48 ∷ 48 ∷ 48 ∷ 48 ∷ 48 ∷ 48 ∷ 32 ∷ 51 ∷ 102 ∷ 102 ∷ 49 ∷ 57 ∷ 57 ∷ 57 ∷ 57 ∷ 57 ∷ 57 ∷ 57 ∷ 57 ∷ 57 ∷ 57 ∷ 57 ∷ 97 ∷ 10
     ∷ 112 ∷ 32 ∷ 51 ∷ 102 ∷ 101 ∷ 48 ∷ 48 ∷ 48 ∷ 48 ∷ 48 ∷ 48 ∷ 48 ∷ 48 ∷ 48 ∷ 48 ∷ 48 ∷ 48 ∷ 48 ∷ 32 ∷ 51 ∷ 102 ∷ 102 ∷ 52 ∷ 99 ∷ 99 ∷ 99 ∷ 99 ∷ 99 ∷ 99 ∷ 99 ∷ 99 ∷ 99 ∷ 99 ∷ 99 ∷ 100 ∷ 10
     ∷ []
+
+s1-text : runText 3 1 3 us rs gs ps ≡ s1Text
 unfolding runText endLine singles pairs line numbers hexOf word decimal places placesBy digits glyph ofBits toBits
 s1-text = refl
