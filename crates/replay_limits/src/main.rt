@@ -4,21 +4,22 @@ use format::Settings;
 use format::Whole;
 use sheet::Written;
 
-// The first line has nine bytes: no place here is above 9.
-fn print_front(text: &[u8]) {
-    if text.len() < 9 {
+// The text's first bytes, and how many it has.
+fn print_front(text: &[u8], line: usize) {
+    if text.len() < line {
         return;
     }
-    io::write_all(1, &text[..9]);
+    io::write_all(1, &text[..line]);
     io::write_all(1, b" ");
     io::print_decimal(1, text.len() as u64);
     io::write_all(1, b"\n");
 }
 
+// The first line has nine bytes: no place here is above 9.
 fn print_of(sheet: &[u8]) {
     let mut out = [0u8; printing::TEXT];
     let end = printing::print_sheet(sheet, &mut out);
-    print_front(&out[..end]);
+    print_front(&out[..end], 9);
 }
 
 // So many bytes, all the same.

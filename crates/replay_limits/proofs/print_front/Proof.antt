@@ -1,4 +1,4 @@
--- `print_front` is safe: the first nine bytes are within the text. Assumes nothing.
+-- `print_front` is safe: the front is within the text. Assumes nothing.
 use mathlib.Core.Path.{sym}
 use native.Mathlib.Omega.{arith}
 use lib.Seq.{length-take-le}
