@@ -115,7 +115,7 @@ open-space sheet b c run e o = go (eqb (short (needs c) (lengthsOf b)) 0) refl (
 
 module _ (sheet : List ℕ) (h : Bytes sheet) (b : Buffers) (c : Content) (run : Run) (e : parse sheet ≡ accepted c) (o : opened sheet b .answer ≡ Opened.Open run) (ls : List Lent) where
   -- what opening left is the image at place 0
-  as-opened : begun run (opened sheet b .all) ≡ begun (runOf c fresh) (image c fresh (restOf c b))
+  pub as-opened : begun run (opened sheet b .all) ≡ begun (runOf c fresh) (image c fresh (restOf c b))
   as-opened =
       let i : opened sheet b ≡ opening (Opened.Open (runOf c fresh)) (image c fresh (restOf c b)) = opened-run sheet b c e (open-space sheet b c run e o) in
       let r : run ≡ runOf c fresh = open-same (sym o ∙ ap (λ (x : Opening). x .answer) i) in

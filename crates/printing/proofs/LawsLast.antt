@@ -3,7 +3,6 @@ use Prim.Native.Nat.{ℕ, _+_, _-_, _≤_, min}
 use mathlib.Core.Path.{_≡_, refl, sym, ap, _∙_}
 use mathlib.Core.Bool.{Bool, true, false}
 use mathlib.Core.List.{List, [], _∷_, append-nil}
-use mathlib.Core.Option.{none}
 use native.Mathlib.Omega.{arith}
 use borrow.Author.Tests.{le-ltb, eqb-true}
 use lib.Dec.{ltb, eqb}
@@ -17,7 +16,7 @@ use Rattle.format.specs.Sheet.{Parsed, accepted, refused, parse}
 use Rattle.format.specs.Theorems.{parse-sound}
 use Rattle.model.specs.Run.{at, lastPlace}
 use Rattle.model.specs.RunLaws.{last-bound}
-use Rattle.model.specs.Machine.{Space, Counter, fresh, most, needs, short, ahead, refused as machineRefused, tick, Lent, ticks}
+use Rattle.model.specs.Machine.{Space, Counter, fresh, most, needs, short, ahead, refused as machineRefused, tick, Lent, Ticked, ticks}
 use Rattle.work.specs.declared.Run.{Run}
 use Rattle.image.specs.declared.Opened.{Opened}
 use Rattle.image.specs.Calls.{Buffers, fault, runAfter, buffersAfter}
@@ -29,14 +28,16 @@ use Rattle.image.specs.Image.{runOf, image, restOf}
 use Rattle.image.specs.Replay.{opening, openedBy, opened, Opens}
 use Rattle.image.specs.ReplayTheorem.{as-long, opened-run, never}
 use Rattle.image.specs.Shown.{lengthsOf, machine, Shown, HandedOut}
-use Rattle.image.specs.Theorem.{begun, lists-from-sheet, handed-from-sheet}
+use Rattle.image.specs.Theorem.{begun, lists-of-calls-image, as-opened, lists-from-sheet, handed-from-sheet}
+use Rattle.text.specs.Put.{Printed}
 use Rattle.text.specs.Text.{refusedText}
-use Rattle.printing.specs.Printed.{mostBytes, places, stateText, contentText, parsedText, printed}
-use Rattle.printing.specs.Steps.{shownText, far, lastText}
+use Rattle.printing.specs.Printed.{mostBytes, places, stateText, contentText, parsedText, printed, atLast, parsedBuffers, printedBuffers, Prints}
+use Rattle.printing.specs.Steps.{shownText, far, lastText, PutsLast}
+use Rattle.printing.proofs.LawsText.{printed-as}
 
--- where the machine stands after the advance
-abbrev atEnd : Content → Counter
-atEnd c = record { place = lastPlace c; mark = none; passes = lastPlace c }
+-- buffers of so many places
+pub as-places : (b : Buffers) → length (b .floats) ≡ 8192 → length (b .words) ≡ 16384 → length (b .path) ≡ 8192 → lengthsOf b ≡ places
+as-places b f w p = rw (f, w, p)
 
 -- ---- a front that is all there is
 
@@ -52,7 +53,7 @@ module _ (c : Content) (good : InRange c) where
   last-near : lastPlace c ≤ 4294967295
   last-near = let k : _ = counted c good in omega (arith, last-bound c, k .triangles, k .limit)
 
-  machine-last : (all : Space) → short (needs c) all ≡ 0 → machine c all (record { call = far; space = all } ∷ []) ≡ record { counter = atEnd c; said = 0 ∷ [] }
+  machine-last : (all : Space) → short (needs c) all ≡ 0 → machine c all (record { call = far; space = all } ∷ []) ≡ record { counter = atLast c; said = 0 ∷ [] }
   unfolding ticks tick machineRefused
   machine-last all space =
       let n : lastPlace c ≤ 4294967295 = last-near in
@@ -80,9 +81,9 @@ module _ (sheet : List ℕ) (bytes : Bytes sheet) (b : Buffers) (c : Content) (r
   held-text : shownText (held .run) (held .all .floats) (held .all .path) ≡ stateText (lastPlace c) (at c (lastPlace c))
   unfolding shownText stateText
   held-text =
-      let m : machine c (lengthsOf b) advances ≡ record { counter = atEnd c; said = 0 ∷ [] } = machine-last c good (lengthsOf b) space in
-      let s : Shown c (atEnd c) (held .run) (held .all) = rw m at (lists-from-sheet sheet bytes b c run e o advances .shown) in
-      let h : HandedOut c (atEnd c) (held .run) (held .all) = rw m at (handed-from-sheet sheet bytes b c run e o advances) in
+      let m : machine c (lengthsOf b) advances ≡ record { counter = atLast c; said = 0 ∷ [] } = machine-last c good (lengthsOf b) space in
+      let s : Shown c (atLast c) (held .run) (held .all) = rw m at (lists-from-sheet sheet bytes b c run e o advances .shown) in
+      let h : HandedOut c (atLast c) (held .run) (held .all) = rw m at (handed-from-sheet sheet bytes b c run e o advances) in
       rw (s .place, s .fieldEnd, s .pathEnd, h .field, h .norms, h .gradients, h .points)
 
   -- opening leaves the buffers as long as they were
@@ -96,7 +97,7 @@ module _ (sheet : List ℕ) (bytes : Bytes sheet) (b : Buffers) (c : Content) (r
   fault-none : fault far run (opened sheet b .all) ≡ 0
   unfolding performs performed
   fault-none =
-      let m : machine c (lengthsOf b) advances ≡ record { counter = atEnd c; said = 0 ∷ [] } = machine-last c good (lengthsOf b) space in
+      let m : machine c (lengthsOf b) advances ≡ record { counter = atLast c; said = 0 ∷ [] } = machine-last c good (lengthsOf b) space in
       let s : held .said ≡ 0 ∷ [] = rw m at (lists-from-sheet sheet bytes b c run e o advances .refusals) in
       ap (fault far run) (sym lent-all) ∙ ap (λ (l : List ℕ). getD l 0 0) s
 
@@ -107,6 +108,13 @@ module _ (sheet : List ℕ) (bytes : Bytes sheet) (b : Buffers) (c : Content) (r
   all-held : buffersAfter far run (opened sheet b .all) ≡ held .all
   unfolding performs performed
   all-held = sym (behind-all (lengthsOf b) (opened sheet b .all) (buffersAfter far run (opened sheet b .all)) same-lengths) ∙ ap (λ (x : Buffers). behind (lengthsOf b) (opened sheet b .all) (buffersAfter far run x)) (sym lent-all)
+
+  -- what it leaves
+  last-held : buffersAfter far run (opened sheet b .all) ≡ image c (atLast c) (restOf c b)
+  last-held =
+      let m : machine c (lengthsOf b) advances ≡ record { counter = atLast c; said = 0 ∷ [] } = machine-last c good (lengthsOf b) space in
+      all-held ∙ ap (λ (h : Held). performs advances h .all) (as-opened sheet bytes b c run e o advances) ∙ ap (λ (h : Held). h .all) (lists-of-calls-image c good b space advances)
+      ∙ ap (λ (t : Ticked). image c (t .counter) (restOf c b)) m
 
   last-state : lastText run (opened sheet b .all) ≡ stateText (lastPlace c) (at c (lastPlace c))
   unfolding lastText
@@ -146,13 +154,52 @@ module _ (b : Buffers) (long : lengthsOf b ≡ places) where
       go true t f = absurd (never f)
       go false t f = rw t (last-state sheet bytes b c run q o (rw t))
 
+  -- what is left of the buffers
+  refused-held : (p : Parsed) (k : ℕ) → openedBy p b .answer ≡ Opened.Refused k → openedBy p b .all ≡ parsedBuffers p b
+  refused-held (refused j) k e = refl
+  refused-held (accepted c) k e = go (lacking (needs c) (lengthsOf b)) e
+    where
+      go : (t : Bool)
+          → pick (eqb (pick t 8 0) 0) (opening (Opened.Open (runOf c fresh)) (image c fresh (restOf c b))) (opening (Opened.Refused (pick t 8 0)) b) .answer ≡ Opened.Refused k
+          → pick (eqb (pick t 8 0) 0) (opening (Opened.Open (runOf c fresh)) (image c fresh (restOf c b))) (opening (Opened.Refused (pick t 8 0)) b) .all
+          ≡ pick (eqb (pick {A = ℕ} t 8 0) 0) (image c (atLast c) (restOf c b)) b
+      go true f = refl
+      go false f = absurd (never (sym f))
+
+  open-held : (sheet : List ℕ) → Bytes sheet → (run : Run) → opened sheet b .answer ≡ Opened.Open run → (p : Parsed) → parse sheet ≡ p → openedBy p b .answer ≡ Opened.Open run
+      → buffersAfter far run (opened sheet b .all) ≡ parsedBuffers p b
+  open-held sheet bytes run o (refused j) q e = absurd (never e)
+  open-held sheet bytes run o (accepted c) q e = go (lacking (needs c) (lengthsOf b)) refl e
+    where
+      go : (t : Bool) → lacking (needs c) (lengthsOf b) ≡ t
+          → pick (eqb (pick t 8 0) 0) (opening (Opened.Open (runOf c fresh)) (image c fresh (restOf c b))) (opening (Opened.Refused (pick t 8 0)) b) .answer ≡ Opened.Open run
+          → buffersAfter far run (opened sheet b .all) ≡ pick (eqb (short (needs c) (lengthsOf b)) 0) (image c (atLast c) (restOf c b)) b
+      go true t f = absurd (never f)
+      go false t f = rw t (last-held sheet bytes b c run q o (rw t))
+
   module _ (sheet : List ℕ) (few : length sheet ≤ mostBytes) (a : Opened) (b′ : Buffers) (o : Opens sheet b a b′) where
-    pub printed-refused : (k : ℕ) → a ≡ Opened.Refused k → refusedText k ≡ printed sheet
+    printed-refused : (k : ℕ) → a ≡ Opened.Refused k → refusedText k ≡ printed sheet
     unfolding printed opened
     printed-refused k e = rw (le-ltb mostBytes (length sheet) few) (refused-text (parse sheet) k (sym (o .answer) ∙ e))
 
-    pub printed-run : Bytes sheet → (run : Run) → a ≡ Opened.Open run → lastText run b′ ≡ printed sheet
+    printed-run : Bytes sheet → (run : Run) → a ≡ Opened.Open run → lastText run b′ ≡ printed sheet
     unfolding printed opened
     printed-run bytes run e =
         let f : opened sheet b .answer ≡ Opened.Open run = sym (o .answer) ∙ e in
         rw (le-ltb mostBytes (length sheet) few) (ap (lastText run) (o .held) ∙ open-text sheet bytes run f (parse sheet) refl f)
+
+    pub refused-prints : {out out′ : List ℕ} {r : ℕ} (k : ℕ) → a ≡ Opened.Refused k → Printed out 0 (refusedText k) r out′ → Prints sheet b out r b′ out′
+    unfolding printedBuffers opened
+    refused-prints k e p = record {
+      text = printed-as (printed sheet) p (printed-refused k e);
+      held = rw (le-ltb mostBytes (length sheet) few) (o .held ∙ refused-held (parse sheet) k (sym (o .answer) ∙ e));
+    }
+
+    pub run-prints : {out out′ : List ℕ} {r : ℕ} {b″ : Buffers} → Bytes sheet → (run : Run) → a ≡ Opened.Open run → PutsLast run b′ out r b″ out′ → Prints sheet b out r b″ out′
+    unfolding printedBuffers opened
+    run-prints bytes run e p =
+        let f : opened sheet b .answer ≡ Opened.Open run = sym (o .answer) ∙ e in
+        record {
+          text = printed-as (printed sheet) (p .text) (printed-run bytes run e);
+          held = rw (le-ltb mostBytes (length sheet) few) (p .held ∙ ap (buffersAfter far run) (o .held) ∙ open-held sheet bytes run f (parse sheet) refl f);
+        }

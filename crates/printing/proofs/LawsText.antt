@@ -19,7 +19,7 @@ use Rattle.image.specs.Parts.{within, counted, fieldOf, normsOf, gradientsOf}
 use Rattle.image.specs.Points.{pointsOf}
 use Rattle.text.specs.Put.{Printed}
 use Rattle.text.specs.Text.{runText, refusedText}
-use Rattle.printing.specs.Printed.{mostBytes, printed}
+use Rattle.printing.specs.Printed.{mostBytes, printed, printedBuffers, Prints}
 use Rattle.printing.specs.Steps.{Room, shownText, far, lastText}
 
 -- ---- no list is longer than its buffer
@@ -92,6 +92,6 @@ unfolding lastText
 last-shown r r′ b b′ k e z p q = rw (← e, z, p, q)
 
 -- too many bytes
-pub printed-long : (sheet : List ℕ) → mostBytes < length sheet → refusedText 8 ≡ printed sheet
-unfolding printed
-printed-long sheet h = rw (lt-ltb mostBytes (length sheet) h)
+pub long-prints : {out out′ : List ℕ} {r : ℕ} (sheet : List ℕ) (b : Buffers) → mostBytes < length sheet → Printed out 0 (refusedText 8) r out′ → Prints sheet b out r b out′
+unfolding printed printedBuffers
+long-prints sheet b h p = record { text = printed-as (printed sheet) p (rw (lt-ltb mostBytes (length sheet) h)); held = rw (lt-ltb mostBytes (length sheet) h) }

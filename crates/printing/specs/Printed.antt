@@ -1,15 +1,21 @@
--- What the program `spiral` prints of a sheet's bytes (document 01, Length, writer, program), as bytes. Definitions only. Assumes nothing.
+-- What the program `spiral` prints of a sheet's bytes (document 01, Length, writer, program), as bytes, and what the lent buffers hold afterwards. Definitions only. Assumes nothing.
 use Prim.Native.Nat.{ℕ}
+use mathlib.Core.Path.{_≡_}
 use mathlib.Core.List.{List}
+use mathlib.Core.Option.{none}
 use lib.Dec.{ltb, eqb}
 use lib.ListN.{length}
 use Rattle.binary64.specs.Number.{pick}
 use Rattle.format.specs.Content.{Content}
 use Rattle.format.specs.Sheet.{Parsed, accepted, refused, parse}
 use Rattle.model.specs.Space.{pathSpace}
-use Rattle.model.specs.Machine.{Space, needs, short}
+use Rattle.model.specs.Machine.{Space, Counter, needs, short}
 use Rattle.model.specs.Run.{State, at, lastPlace}
+use Rattle.image.specs.Calls.{Buffers}
+use Rattle.image.specs.Image.{image, restOf}
+use Rattle.image.specs.Shown.{lengthsOf}
 use Rattle.text.specs.Text.{runText, refusedText}
+use Rattle.text.specs.Put.{Printed}
 
 -- ---- the limits
 
@@ -39,3 +45,22 @@ parsedText (accepted c) = contentText c
 -- too many bytes come before any other refusal
 unfoldable pub printed : List ℕ → List ℕ
 printed sheet = pick (ltb mostBytes (length sheet)) (refusedText 8) (parsedText (parse sheet))
+
+-- ---- the lent buffers
+
+-- the machine at the last place, after one advance
+abbrev pub atLast : Content → Counter
+atLast c = record { place = lastPlace c; mark = none; passes = lastPlace c }
+
+-- as they were where the sheet or the space is refused; else those of the last place
+abbrev pub parsedBuffers : Parsed → Buffers → Buffers
+parsedBuffers (refused k) b = b
+parsedBuffers (accepted c) b = pick (eqb (short (needs c) (lengthsOf b)) 0) (image c (atLast c) (restOf c b)) b
+
+unfoldable pub printedBuffers : List ℕ → Buffers → Buffers
+printedBuffers sheet b = pick (ltb mostBytes (length sheet)) b (parsedBuffers (parse sheet) b)
+
+-- what `print_sheet` ensures: the text from the front of the lent bytes on, how many bytes it has, and every lent place
+pub record Prints (sheet : List ℕ) (b : Buffers) (out : List ℕ) (r : ℕ) (b′ : Buffers) (out′ : List ℕ) : Type 0 where
+  pub text : Printed out 0 (printed sheet) r out′
+  pub held : b′ ≡ printedBuffers sheet b

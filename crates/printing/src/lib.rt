@@ -12,11 +12,11 @@ ghost use Rattle.printing.specs.Steps as Steps;
 // The most bytes of a sheet, and the places of the buffers: floats, whole numbers, x and y of each point.
 pub const SHEET: usize = 65536;
 
-const FLOATS: usize = 8192;
+pub const FLOATS: usize = 8192;
 
-const WORDS: usize = 16384;
+pub const WORDS: usize = 16384;
 
-const PATH: usize = 8192;
+pub const PATH: usize = 8192;
 
 // More than the text of lists that stand in such buffers: 67 + 37 · (8,192 + 8,192) bytes at the most.
 pub const TEXT: usize = 655360;
@@ -54,7 +54,7 @@ fn put_last(
     path: &mut [f64],
 ) -> usize
     requires { ⌜ Steps.Room (now floats) (now path) (now out) ⌝ }
-    ensures { λ r. ⌜ Printed (now (out .entry)) 0 (Steps.lastText opened (buffers (now (floats .entry)) (now (words .entry)) (now (path .entry)))) r (now (out .exit)) ⌝ }
+    ensures { λ r. ⌜ Steps.PutsLast opened (buffers (now (floats .entry)) (now (words .entry)) (now (path .entry))) (now (out .entry)) r (buffers (now (floats .exit)) (now (words .entry)) (now (path .exit))) (now (out .exit)) ⌝ }
 {
     let answer = run::advance(opened, 4294967295, floats, words, path);
     if answer.refused != 0 {
@@ -65,18 +65,21 @@ fn put_last(
 }
 
 // The text, from the front of the lent bytes on. Answers how many bytes it has.
-pub fn print_sheet(sheet: &[u8], out: &mut [u8; TEXT]) -> usize
-    ensures { λ r. ⌜ Printed (now (out .entry)) 0 (Text.printed (now (sheet .entry))) r (now (out .exit)) ⌝ }
+pub fn print_sheet(
+    sheet: &[u8],
+    floats: &mut [f64; FLOATS],
+    words: &mut [u32; WORDS],
+    path: &mut [f64; PATH],
+    out: &mut [u8; TEXT],
+) -> usize
+    ensures { λ r. ⌜ Text.Prints (now (sheet .entry)) (buffers (now (floats .entry)) (now (words .entry)) (now (path .entry))) (now (out .entry)) r (buffers (now (floats .exit)) (now (words .exit)) (now (path .exit))) (now (out .exit)) ⌝ }
 {
     if SHEET < sheet.len() {
         return text::put_refused(out, 0, 8);
     }
-    let mut floats = [0.0; FLOATS];
-    let mut words = [0u32; WORDS];
-    let mut path = [0.0; PATH];
-    let opened = run::open(sheet, &mut floats, &mut words, &mut path);
+    let opened = run::open(sheet, floats, words, path);
     match opened {
         Opened::Refused(k) => text::put_refused(out, 0, k as u64),
-        Opened::Open(r) => put_last(out, r, &mut floats, &words, &mut path),
+        Opened::Open(r) => put_last(out, r, floats, words, path),
     }
 }

@@ -18,7 +18,10 @@ fn print_front(text: &[u8], line: usize) {
 // The first line has nine bytes: no place here is above 9.
 fn print_of(sheet: &[u8]) {
     let mut out = [0u8; printing::TEXT];
-    let end = printing::print_sheet(sheet, &mut out);
+    let mut floats = [0.0; printing::FLOATS];
+    let mut words = [0u32; printing::WORDS];
+    let mut path = [0.0; printing::PATH];
+    let end = printing::print_sheet(sheet, &mut floats, &mut words, &mut path, &mut out);
     print_front(&out[..end], 9);
 }
 

@@ -5,6 +5,9 @@ fn main() {
     let mut space = [0u8; printing::SHEET + 1];
     let got = io::read_full(0, &mut space);
     let mut out = [0u8; printing::TEXT];
-    let end = printing::print_sheet(&space[..got], &mut out);
+    let mut floats = [0.0; printing::FLOATS];
+    let mut words = [0u32; printing::WORDS];
+    let mut path = [0.0; printing::PATH];
+    let end = printing::print_sheet(&space[..got], &mut floats, &mut words, &mut path, &mut out);
     io::write_all(1, &out[..end]);
 }

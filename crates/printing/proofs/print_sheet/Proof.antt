@@ -1,9 +1,9 @@
 -- `print_sheet` meets its contract: too many bytes, a sheet or a space that is refused, or the run at its last place. Assumes nothing.
 use borrow.Author.Needs.{needs}
-use mathlib.Core.Path.{refl}
 use Rattle.format.specs.Bytes.{Bytes}
-use Rattle.printing.proofs.LawsText.{printed-as, printed-long}
-use Rattle.printing.proofs.LawsLast.{printed-refused, printed-run}
+use Rattle.image.specs.Calls.{buffers}
+use Rattle.printing.proofs.LawsText.{long-prints}
+use Rattle.printing.proofs.LawsLast.{as-places, refused-prints, run-prints}
 use Rattle.printing.proofs.print_sheet.Statement.{statement}
 use Rattle.printing.proofs.print_sheet.Tie as tie
 
@@ -11,16 +11,7 @@ put-refused-requires : tie.Need-put-refused-requires
 put-refused-requires c κs = search needs
 
 returns : tie.Need-returns
-returns c = printed-as _ (c .put-refused .ensures) (printed-long _ (c .before .before .if1 .taken))
-
-slice-aggregate-open : tie.Need-slice-aggregate-open
-slice-aggregate-open c = search needs
-
-slice-aggregate-open-2 : tie.Need-slice-aggregate-open-2
-slice-aggregate-open-2 c = search needs
-
-slice-aggregate-open-3 : tie.Need-slice-aggregate-open-3
-slice-aggregate-open-3 c = search needs
+returns c = long-prints _ _ (c .before .before .if1 .taken) (c .put-refused .ensures)
 
 open-requires : tie.Need-open-requires
 open-requires c κs = search needs
@@ -37,44 +28,16 @@ put-refused-requires-2 c κs = search needs
 enum-known-opened-2 : tie.Need-enum-known-opened-2
 enum-known-opened-2 c = search needs
 
-slice-aggregate-put-last : tie.Need-slice-aggregate-put-last
-slice-aggregate-put-last c = search needs
-
-slice-aggregate-put-last-2 : tie.Need-slice-aggregate-put-last-2
-slice-aggregate-put-last-2 c = search needs
-
-slice-aggregate-put-last-3 : tie.Need-slice-aggregate-put-last-3
-slice-aggregate-put-last-3 c = search needs
-
 put-last-requires : tie.Need-put-last-requires
 put-last-requires c κs = search needs
 
 returns-2 : tie.Need-returns-2
-returns-2 c =
-    printed-as _ (c .put-refused2 .ensures) (printed-refused _ refl _ (c .before .before .before .before .before .before .before .before .before .before .before .before .if1 .left) _ _ (c .before .before .before .before .before .before .before .before .«open» .ensures) _ (c .before .before .before .opened .given .1))
+returns-2 c = refused-prints _ (as-places (buffers (c .before .before .before .before .before .before .before .before .before .before .before .args .floats .now) (c .before .before .before .before .before .before .before .before .before .before .before .args .words .now) (c .before .before .before .before .before .before .before .before .before .before .before .args .path .now)) (search needs) (search needs) (search needs)) _ (c .before .before .before .before .before .before .before .before .before .if1 .left) _ _ (c .before .before .before .before .before .«open» .ensures) _ (c .before .before .before .opened .given .1) (c .put-refused2 .ensures)
 
 returns-3 : tie.Need-returns-3
 returns-3 c =
-    let bytes : Bytes (c .before .before .before .before .before .before .before .before .before .before .before .before .before .before .before .before .before .before .before .args .sheet .now) = record { below = λ i. c .before .before .before .before .before .before .before .before .before .before .before .before .before .before .before .before .before .before .shared-slice-known .given i .fits } in
-    printed-as _ (c .before .before .put-last .ensures) (printed-run _ refl _ (c .before .before .before .before .before .before .before .before .before .before .before .before .before .before .before .before .before .if1 .left) _ _ (c .before .before .before .before .before .before .before .before .before .before .before .before .before .«open» .ensures) bytes _ (c .before .before .before .before .before .before .before .before .opened2 .given .1))
+    let bytes : Bytes (c .before .before .before .before .before .before .before .before .before .before .before .before .before .before .before .args .sheet .now) = record { below = λ i. c .before .before .before .before .before .before .before .before .before .before .before .before .before .before .shared-slice-known .given i .fits } in
+    run-prints _ (as-places (buffers (c .before .before .before .before .before .before .before .before .before .before .before .before .before .before .before .args .floats .now) (c .before .before .before .before .before .before .before .before .before .before .before .before .before .before .before .args .words .now) (c .before .before .before .before .before .before .before .before .before .before .before .before .before .before .before .args .path .now)) (search needs) (search needs) (search needs)) _ (c .before .before .before .before .before .before .before .before .before .before .before .before .before .if1 .left) _ _ (c .before .before .before .before .before .before .before .before .before .«open» .ensures) bytes _ (c .before .before .before .before .before .before .before .opened2 .given .1) (c .put-last .ensures)
 
 pub print-sheet-spec : {M : Type 1} → statement M
-print-sheet-spec =
-    tie.close
-    (tie.spec
-    put-refused-requires
-    returns
-    slice-aggregate-open
-    slice-aggregate-open-2
-    slice-aggregate-open-3
-    open-requires
-    enum-known-opened
-    cast-put-refused
-    put-refused-requires-2
-    enum-known-opened-2
-    slice-aggregate-put-last
-    slice-aggregate-put-last-2
-    slice-aggregate-put-last-3
-    put-last-requires
-    returns-2
-    returns-3)
+print-sheet-spec = tie.close (tie.spec put-refused-requires returns open-requires enum-known-opened cast-put-refused put-refused-requires-2 enum-known-opened-2 put-last-requires returns-2 returns-3)

@@ -24,7 +24,9 @@ same-length-3 : tie.Need-same-length-3
 same-length-3 c = search needs
 
 returns : tie.Need-returns
-returns c = printed-as _ (c .before .before .put-refused .ensures) (last-refused _ _ _ (c .before .before .before .before .before .before .before .before .before .before .before .advance .ensures .said) (c .before .before .before .before .before .if1 .taken))
+returns c =
+    let done = c .before .before .before .before .before .before .before .before .before .before .before .advance .ensures in
+    record { text = printed-as _ (c .before .before .put-refused .ensures) (last-refused _ _ _ (done .said) (c .before .before .before .before .before .if1 .taken)); held = done .held }
 
 put-shown-requires : tie.Need-put-shown-requires
 put-shown-requires c κs = search needs
@@ -41,7 +43,7 @@ same-length-6 c = search needs
 returns-2 : tie.Need-returns-2
 returns-2 c =
     let done = c .before .before .before .before .before .before .before .before .before .before .before .before .before .advance .ensures in
-    printed-as _ (c .before .before .put-shown .ensures) (last-shown _ _ _ _ _ (done .said) (c .before .before .before .before .before .before .before .if1 .left) (done .left) (done .held))
+    record { text = printed-as _ (c .before .before .put-shown .ensures) (last-shown _ _ _ _ _ (done .said) (c .before .before .before .before .before .before .before .if1 .left) (done .left) (done .held)); held = done .held }
 
 pub put-last-spec : {M : Type 1} → statement M
 put-last-spec =
