@@ -1,20 +1,19 @@
 -- What the square of a distance tells of its root: the root is at most any double whose square is not below the operand, and at least any whose square is not above it.
--- So the root of what is above 2^−68 is above 1e-12 and below infinity, and the root of what lies beside the rounded square of a double lies beside the double. Assumes nothing.
+-- So the root of what lies beside the rounded square of a double lies beside the double, and the root of what is above 2^−68 is at least 2^−34 and below infinity. Assumes nothing.
 use mathlib.Core.Path.{_≡_, refl, sym, ap, _∙_, subst}
 use mathlib.Core.Bool.{Bool, true, false, true≢false, false≢true, _&&_, _||_}
 use Prim.Native.Nat.{ℕ, zero, suc, _+_, _-_, _*_, _/_, _%_, _^_, _≤_, _<_, zero-le}
 use native.Mathlib.Nat.{le-trans, le-of-eq, le-of-lt, lt-of-lt-of-le, lt-of-le-of-lt, not-le-of-lt, mul-one, add-le-add, mul-le-mul, mul-le-mul-left, mul-le-mul-right, mul-pos, mul-lt-mul-of-pos-right, lt-of-mul-lt-mul-right}
 use native.Mathlib.Omega.{arith}
 use borrow.Author.Tests.{ltb-true, lt-ltb, ne-eqb}
-use lib.Dec.{T, lit≤, lit<}
+use lib.Dec.{T, lit≤}
 use lib.Pow.{pow-pos, pow-mono, shl-lt}
 use lib.Ieee.{Float, nan, inf, fin, binary64, up, down, odd, fits, ofFields, ofBits, toBits, lt, le, eq, div, mul, round}
 use lib.Ieee.Bits.{ofBits-toBits}
 use lib.Ieee.Exact.{HasValue, odd-sign, round-exact}
 use lib.Ieee.Fits.{down-pos}
 use lib.Ieee.Order.{le-of-values, round-mono}
-use lib.Ieee.Positive.{num, den, positive, above, above-of-le, positive-of-value, value-pos, between, mul-at, le→cross, le-trans-positive}
-use Rattle.binary64.specs.Constants.{small}
+use lib.Ieee.Positive.{num, den, den-pos, own-value, positive, above, above-of-le, positive-of-value, value-pos, between, mul-at, le→cross, le-trans-positive}
 use Rattle.binary64.specs.NumberLaws.{both}
 use Rattle.binary64.specs.Root.{root, rootOf, weight, units, square, Between}
 use Rattle.binary64.proofs.Units.{units-is, units-next, units-mono}
@@ -182,38 +181,6 @@ rooted x y l h i j g k =
       most = root-range x h p;
     }
 
--- ---- nearer than an infinite y
-
-infinite : (y : Float) → eq y (inf false) ≡ true → y ≡ inf false
-unfolding eq
-infinite nan h = absurd (false≢true h)
-infinite (inf true) h = absurd (false≢true h)
-infinite (inf false) h = refl
-infinite (fin s m e) h = absurd (false≢true h)
-
-bits-under : (r : ℕ) → r < 2047 * 2 ^ 52 → lt (ofBits binary64 r) (inf false) ≡ true
-unfolding lt
-bits-under r l = go (ofBits binary64 r) (bits-value r l)
-  where
-    go : (x : Float) → HasValue x false (units r) (2 ^ 1074) → lt x (inf false) ≡ true
-    go nan v = absurd v
-    go (inf s) v = absurd v
-    go (fin s m e) v = refl
-
-pub infinity : div binary64 (ofBits binary64 0x3ff0_0000_0000_0000) (ofBits binary64 0) ≡ inf false
-unfolding div ofBits
-infinity = refl
-
-pub first-nearer : (x y v : Float) (l : ℕ) → T (fits binary64 x) → (lt (ofBits binary64 l) x && lt x y && eq y v) ≡ true → low ≤ l → l < 2047 * 2 ^ 52 → v ≡ inf false → true ≡ (lt small (root x) && lt (root x) (root y))
-first-nearer x y v l h t i j f =
-    let t2 = both _ _ t in
-    let t1 = both _ _ (t2 .0) in
-    let r = rooted x y l h i j (t1 .0) (t1 .1) in
-    let n = toBits binary64 (root x) in
-    let e : root y ≡ inf false = ap root (infinite y (subst (λ (z : Float). eq y z ≡ true) f (t2 .1))) ∙ root-infinity in
-    let a : lt small (ofBits binary64 n) ≡ true = bits-lt 0x3d71_9799_812d_ea11 n (r .most) (lt-of-lt-of-le (lit< tt) (r .least)) in
-    rw (r .is, e, a, bits-under n (r .most))
-
 -- ---- an operand beside the rounded square of a double
 
 -- a double is what its own value is rounded to
@@ -282,3 +249,65 @@ module _ (x w : Float) (h : T (fits binary64 x)) (k : T (fits binary64 w)) (p : 
       let b = toBits binary64 w in
       le-of-bits w (root x) k (root-fits x h) (root-range x h p)
       (root-at-least x h p b (square-reached x w (units a) (units b) (2 ^ 1074) (pow-pos 1074) p q (value x h p) (value w k q) (bits-exact a (pattern-range x h p .1)) t))
+
+-- ---- nearer than an infinite y
+
+infinite : (y : Float) → eq y (inf false) ≡ true → y ≡ inf false
+unfolding eq
+infinite nan h = absurd (false≢true h)
+infinite (inf true) h = absurd (false≢true h)
+infinite (inf false) h = refl
+infinite (fin s m e) h = absurd (false≢true h)
+
+bits-under : (r : ℕ) → r < 2047 * 2 ^ 52 → lt (ofBits binary64 r) (inf false) ≡ true
+unfolding lt
+bits-under r l = go (ofBits binary64 r) (bits-value r l)
+  where
+    go : (x : Float) → HasValue x false (units r) (2 ^ 1074) → lt x (inf false) ≡ true
+    go nan v = absurd v
+    go (inf s) v = absurd v
+    go (fin s m e) v = refl
+
+pub infinity : div binary64 (ofBits binary64 0x3ff0_0000_0000_0000) (ofBits binary64 0) ≡ inf false
+unfolding div ofBits
+infinity = refl
+
+-- what is below a positive value is below each that is not less
+less : (a b c p q r : ℕ) → 0 < r → a * q < b * p → b * r ≤ c * q → a * r < c * p
+less a b c p q r R h k =
+    let i : a * q * r < b * p * r = mul-lt-mul-of-pos-right h R in
+    let j : b * r * p ≤ c * q * p = mul-le-mul-right p k in
+    let l : a * r * q < c * p * q = omega arith in
+    lt-of-mul-lt-mul-right q l
+
+lt-more : (x y z : Float) → T (positive y) → T (positive z) → T (le y z) → lt x y ≡ true → lt x z ≡ true
+unfolding lt
+lt-more x nan z p q h g = absurd p
+lt-more x (inf s) z p q h g = absurd p
+lt-more x (fin true n d) z p q h g = absurd p
+lt-more x (fin false n d) nan p q h g = absurd q
+lt-more x (fin false n d) (inf s) p q h g = absurd q
+lt-more x (fin false n d) (fin true k f) p q h g = absurd q
+lt-more nan (fin false n d) (fin false k f) p q h g = absurd (false≢true g)
+lt-more (inf s) (fin false n d) (fin false k f) p q h g = g
+lt-more (fin true m e) (fin false n d) (fin false k f) p q h g =
+    let z = fin false k f in
+    let i : 0 < num z * down e = mul-pos (value-pos z (num z) (den z) q (den-pos z) (own-value z q)) (down-pos e) in
+    let l : 0 < m * up e * down f + num z * down e = omega arith in
+    lt-ltb 0 _ l
+lt-more (fin false m e) (fin false n d) (fin false k f) p q h g =
+    lt-ltb _ _ (less (m * up e) (n * up d) (k * up f) (down e) (down d) (down f) (down-pos f) (ltb-true _ _ g) (le→cross (fin false n d) (fin false k f) p q h))
+
+pub first-nearer : (x y v w : Float) (l k : ℕ) → T (fits binary64 x) → (lt (ofBits binary64 l) x && lt x y && eq y v && lt w (ofBits binary64 k)) ≡ true
+    → low ≤ l → l < 2047 * 2 ^ 52 → v ≡ inf false → 0 < k → k ≤ floor → true ≡ (lt w (root x) && lt (root x) (root y))
+first-nearer x y v w l k h t i j f p m =
+    let t3 = both _ _ t in
+    let t2 = both _ _ (t3 .0) in
+    let t1 = both _ _ (t2 .0) in
+    let r = rooted x y l h i j (t1 .0) (t1 .1) in
+    let n = toBits binary64 (root x) in
+    let e : root y ≡ inf false = ap root (infinite y (subst (λ (z : Float). eq y z ≡ true) f (t2 .1))) ∙ root-infinity in
+    let o : k ≤ n = le-trans m (r .least) in
+    let b = ofBits binary64 n in
+    let a : lt w b ≡ true = lt-more w (ofBits binary64 k) b (bits-positive k p (lt-of-le-of-lt o (r .most))) (bits-positive n (lt-of-lt-of-le p o) (r .most)) (le-bits k n (r .most) o) (t3 .1) in
+    rw (r .is, e, a, bits-under n (r .most))

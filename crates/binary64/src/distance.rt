@@ -4,20 +4,19 @@ ghost use mathlib.Core.Path.{_≡_};
 ghost use mathlib.Core.Bool.{_&&_};
 ghost use lib.Ieee.{lt};
 ghost use Rattle.binary64.specs.Arith.{_⊗_, _⊘_};
-ghost use Rattle.binary64.specs.Constants.{small};
 ghost use Rattle.binary64.specs.Number.{ceilCount};
 ghost use Rattle.binary64.specs.Root.{root};
 
-// Whether the root of x is above 1e-12 and below the root of y.
-pub fn is_nearer(x: f64, y: f64) -> bool
-    ensures { λ r. ⌜ r ≡ (lt small (root x) && lt (root x) (root y)) ⌝ }
+// Whether the root of x is above the least and below the root of y.
+pub fn is_nearer(x: f64, y: f64, least: f64) -> bool
+    ensures { λ r. ⌜ r ≡ (lt least (root x) && lt (root x) (root y)) ⌝ }
 {
-    // the first one found: the root of an infinite y is infinite
-    if (1e-20 < x) & (x < y) & (y == 1.0 / 0.0) {
+    // the first one found: the root of an infinite y is infinite, and that of x above a small least
+    if (1e-20 < x) & (x < y) & (y == 1.0 / 0.0) & (least < 1e-11) {
         return true;
     }
     let d = crate::root::sqrt(x);
-    if d > 1e-12 {
+    if d > least {
         return d < crate::root::sqrt(y);
     }
     false

@@ -93,14 +93,14 @@ pub infinite : one ⊘ plusZero ≡ inf false
 unfolding div ofBits
 infinite = refl
 
-module _ (vs : List Float) (ts : List ℕ) (t : ℕ) (pos dir : Point) (entry : ℕ) where
-  pub nearest-none : nearest (root (one ⊘ plusZero)) Exit.Nothing ≡ nearestOf vs ts t pos dir entry 0
+module _ (least : Float) (vs : List Float) (ts : List ℕ) (t : ℕ) (pos dir : Point) (entry : ℕ) where
+  pub nearest-none : nearest (root (one ⊘ plusZero)) Exit.Nothing ≡ nearestOf least vs ts t pos dir entry 0
   unfolding nearestOf root
   nearest-none = rw infinite
 
-  pub nearest-step : (e : ℕ) {best next : Nearest} → next ≡ considered vs ts t pos dir entry e best → best ≡ nearestOf vs ts t pos dir entry e → next ≡ nearestOf vs ts t pos dir entry (e + 1)
+  pub nearest-step : (e : ℕ) {best next : Nearest} → next ≡ considered least vs ts t pos dir entry e best → best ≡ nearestOf least vs ts t pos dir entry e → next ≡ nearestOf least vs ts t pos dir entry (e + 1)
   unfolding nearestOf
   nearest-step e h b = rw (add-one, ← b) h
 
-  pub nearest-done : {e : ℕ} {best : Nearest} → 3 ≤ e → e ≤ 3 → best ≡ nearestOf vs ts t pos dir entry e → best ≡ nearestOf vs ts t pos dir entry 3
+  pub nearest-done : {e : ℕ} {best : Nearest} → 3 ≤ e → e ≤ 3 → best ≡ nearestOf least vs ts t pos dir entry e → best ≡ nearestOf least vs ts t pos dir entry 3
   nearest-done {e} l m b = let h : e ≡ 3 = omega arith in rw h at b

@@ -19,7 +19,7 @@ use Rattle.pde.specs.declared.Side.{Side}
 use Rattle.pde.specs.Bounds.{SideIn, Neighbouring, exit-far, cut-in, entry-in}
 
 module _ (rule : Rule) (vs : List Float) (ts ns : List ℕ) (count : ℕ) (us : List Float) (g : Point) (step : Float) (pos : Point) (t entry : ℕ) {dir : Point} {mag : Float} {best : Nearest}
-    (ism : mag ≡ magnitude g) (bright : lt mag (rule .dull) ≡ false) (isd : dir ≡ direction step g mag) (isb : best ≡ nearestOf vs ts t pos dir entry 3) where
+    (ism : mag ≡ magnitude g) (bright : lt mag (rule .dull) ≡ false) (isd : dir ≡ direction step g mag) (isb : best ≡ nearestOf (rule .dull) vs ts t pos dir entry 3) where
   to-left : crossingAlong rule vs ts ns count us g step pos t entry ≡ left rule vs ts ns count us pos t (best .exit)
   unfolding crossingAlong
   to-left = rw (← ism, bright, ← isd) (ap (λ (n : Nearest). left rule vs ts ns count us pos t (n .exit)) (sym isb))
@@ -28,7 +28,7 @@ module _ (rule : Rule) (vs : List Float) (ts ns : List ℕ) (count : ℕ) (us : 
   crossing-stuck e = sym (to-left ∙ ap (left rule vs ts ns count us pos t) e)
 
   far-away : {e : ℕ} {p : Point} → best .exit ≡ Exit.Through e p → best .far ≡ distance pos p
-  far-away h = rw isb (exit-far vs ts t pos dir entry 3 (rw isb at h))
+  far-away h = rw isb (exit-far (rule .dull) vs ts t pos dir entry 3 (rw isb at h))
 
   pub crossing-leaves : {e n : ℕ} {p : Point} {b : Beyond} → best .exit ≡ Exit.Through e p → n ≡ ceilCount (best .far ⊘ rule .spacing) → b ≡ beyond (rule .above) vs ts ns count us t e p
       → Crossing.Leaves p n b ≡ crossingAlong rule vs ts ns count us g step pos t entry

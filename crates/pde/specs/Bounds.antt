@@ -7,7 +7,6 @@ use native.Mathlib.Omega.{arith}
 use lib.Dec.{eqb}
 use borrow.Author.Tests.{eqb-false}
 use lib.Ieee.{Float, lt}
-use Rattle.binary64.specs.Constants.{small}
 use Rattle.binary64.specs.Number.{pick}
 use Rattle.plane.specs.declared.Point.{Point}
 use Rattle.plane.specs.declared.Hit.{Hit}
@@ -103,48 +102,48 @@ pick-start-in vs ts ns tags n us =
 
 -- ---- the exit
 
-offered-in : (pos : Point) (e : ℕ) (hit : Hit) (best : Nearest) → e < 3 → ExitIn (best .exit) → ExitIn (offered pos e hit best .exit)
-offered-in pos e (Hit.At p) best h b =
+offered-in : (least : Float) (pos : Point) (e : ℕ) (hit : Hit) (best : Nearest) → e < 3 → ExitIn (best .exit) → ExitIn (offered least pos e hit best .exit)
+offered-in least pos e (Hit.At p) best h b =
     let d = distance pos p in
-    pick-in (λ (n : Nearest). ExitIn (n .exit)) (lt small d && lt d (best .far)) (nearest d (Exit.Through e p)) best (λ _. h) (λ _. b)
-offered-in pos e Hit.Nothing best h b = b
+    pick-in (λ (n : Nearest). ExitIn (n .exit)) (lt least d && lt d (best .far)) (nearest d (Exit.Through e p)) best (λ _. h) (λ _. b)
+offered-in least pos e Hit.Nothing best h b = b
 
-considered-in : (vs : List Float) (ts : List ℕ) (t : ℕ) (pos dir : Point) (entry e : ℕ) (best : Nearest) → e < 3 → ExitIn (best .exit) → ExitIn (considered vs ts t pos dir entry e best .exit)
+considered-in : (least : Float) (vs : List Float) (ts : List ℕ) (t : ℕ) (pos dir : Point) (entry e : ℕ) (best : Nearest) → e < 3 → ExitIn (best .exit) → ExitIn (considered least vs ts t pos dir entry e best .exit)
 unfolding considered
-considered-in vs ts t pos dir entry e best h b =
+considered-in least vs ts t pos dir entry e best h b =
     let hit = rayLineIntersection pos dir (vertex vs (corner ts t e)) (vertex vs (corner ts t (onward e))) in
-    pick-in (λ (n : Nearest). ExitIn (n .exit)) (eqb e entry) best (offered pos e hit best) (λ _. b) (λ _. offered-in pos e hit best h b)
+    pick-in (λ (n : Nearest). ExitIn (n .exit)) (eqb e entry) best (offered least pos e hit best) (λ _. b) (λ _. offered-in least pos e hit best h b)
 
-nearest-in : (vs : List Float) (ts : List ℕ) (t : ℕ) (pos dir : Point) (entry k : ℕ) → k ≤ 3 → ExitIn (nearestOf vs ts t pos dir entry k .exit)
+nearest-in : (least : Float) (vs : List Float) (ts : List ℕ) (t : ℕ) (pos dir : Point) (entry k : ℕ) → k ≤ 3 → ExitIn (nearestOf least vs ts t pos dir entry k .exit)
 unfolding nearestOf
-nearest-in vs ts t pos dir entry zero h = tt
-nearest-in vs ts t pos dir entry (suc e) h = considered-in vs ts t pos dir entry e _ (omega arith) (nearest-in vs ts t pos dir entry e (omega arith))
+nearest-in least vs ts t pos dir entry zero h = tt
+nearest-in least vs ts t pos dir entry (suc e) h = considered-in least vs ts t pos dir entry e _ (omega arith) (nearest-in least vs ts t pos dir entry e (omega arith))
 
-pub exit-in : (vs : List Float) (ts : List ℕ) (t : ℕ) (pos dir : Point) (entry : ℕ) → ExitIn (exitEdge vs ts t pos dir entry)
-exit-in vs ts t pos dir entry = nearest-in vs ts t pos dir entry 3 (omega arith)
+pub exit-in : (least : Float) (vs : List Float) (ts : List ℕ) (t : ℕ) (pos dir : Point) (entry : ℕ) → ExitIn (exitEdge least vs ts t pos dir entry)
+exit-in least vs ts t pos dir entry = nearest-in least vs ts t pos dir entry 3 (omega arith)
 
 -- how far the nearest exit is
 abbrev FarFrom : Point → Exit → Float → Type 0
 FarFrom pos (Exit.Through e p) d = d ≡ distance pos p
 FarFrom pos Exit.Nothing d = Unit
 
-offered-far : (pos : Point) (e : ℕ) (hit : Hit) (best : Nearest) → FarFrom pos (best .exit) (best .far) → FarFrom pos (offered pos e hit best .exit) (offered pos e hit best .far)
-offered-far pos e (Hit.At p) best b =
+offered-far : (least : Float) (pos : Point) (e : ℕ) (hit : Hit) (best : Nearest) → FarFrom pos (best .exit) (best .far) → FarFrom pos (offered least pos e hit best .exit) (offered least pos e hit best .far)
+offered-far least pos e (Hit.At p) best b =
     let d = distance pos p in
-    pick-in (λ (n : Nearest). FarFrom pos (n .exit) (n .far)) (lt small d && lt d (best .far)) (nearest d (Exit.Through e p)) best (λ _. refl) (λ _. b)
-offered-far pos e Hit.Nothing best b = b
+    pick-in (λ (n : Nearest). FarFrom pos (n .exit) (n .far)) (lt least d && lt d (best .far)) (nearest d (Exit.Through e p)) best (λ _. refl) (λ _. b)
+offered-far least pos e Hit.Nothing best b = b
 
-nearest-far : (vs : List Float) (ts : List ℕ) (t : ℕ) (pos dir : Point) (entry k : ℕ) → FarFrom pos (nearestOf vs ts t pos dir entry k .exit) (nearestOf vs ts t pos dir entry k .far)
+nearest-far : (least : Float) (vs : List Float) (ts : List ℕ) (t : ℕ) (pos dir : Point) (entry k : ℕ) → FarFrom pos (nearestOf least vs ts t pos dir entry k .exit) (nearestOf least vs ts t pos dir entry k .far)
 unfolding nearestOf considered
-nearest-far vs ts t pos dir entry zero = tt
-nearest-far vs ts t pos dir entry (suc e) =
-    let best = nearestOf vs ts t pos dir entry e in
+nearest-far least vs ts t pos dir entry zero = tt
+nearest-far least vs ts t pos dir entry (suc e) =
+    let best = nearestOf least vs ts t pos dir entry e in
     let hit = rayLineIntersection pos dir (vertex vs (corner ts t e)) (vertex vs (corner ts t (onward e))) in
-    let b : FarFrom pos (best .exit) (best .far) = nearest-far vs ts t pos dir entry e in
-    pick-in (λ (n : Nearest). FarFrom pos (n .exit) (n .far)) (eqb e entry) best (offered pos e hit best) (λ _. b) (λ _. offered-far pos e hit best b)
+    let b : FarFrom pos (best .exit) (best .far) = nearest-far least vs ts t pos dir entry e in
+    pick-in (λ (n : Nearest). FarFrom pos (n .exit) (n .far)) (eqb e entry) best (offered least pos e hit best) (λ _. b) (λ _. offered-far least pos e hit best b)
 
-pub exit-far : (vs : List Float) (ts : List ℕ) (t : ℕ) (pos dir : Point) (entry k : ℕ) {e : ℕ} {p : Point} → nearestOf vs ts t pos dir entry k .exit ≡ Exit.Through e p → nearestOf vs ts t pos dir entry k .far ≡ distance pos p
-exit-far vs ts t pos dir entry k h = subst (λ (x : Exit). FarFrom pos x (nearestOf vs ts t pos dir entry k .far)) h (nearest-far vs ts t pos dir entry k)
+pub exit-far : (least : Float) (vs : List Float) (ts : List ℕ) (t : ℕ) (pos dir : Point) (entry k : ℕ) {e : ℕ} {p : Point} → nearestOf least vs ts t pos dir entry k .exit ≡ Exit.Through e p → nearestOf least vs ts t pos dir entry k .far ≡ distance pos p
+exit-far least vs ts t pos dir entry k h = subst (λ (x : Exit). FarFrom pos x (nearestOf least vs ts t pos dir entry k .far)) h (nearest-far least vs ts t pos dir entry k)
 
 -- ---- the edge beyond
 
@@ -201,8 +200,8 @@ module _ (rule : Rule) (vs : List Float) (ts ns : List ℕ) (n : ℕ) (us : List
   unfolding crossingAlong
   along-in g step pos t entry h =
       let mag = magnitude g in
-      let exit = exitEdge vs ts t pos (direction step g mag) entry in
-      pick-in (CrossingIn n) (lt mag (rule .dull)) Crossing.Dull (left rule vs ts ns n us pos t exit) (λ _. tt) (λ _. left-in pos t exit h (exit-in vs ts t pos _ entry))
+      let exit = exitEdge (rule .dull) vs ts t pos (direction step g mag) entry in
+      pick-in (CrossingIn n) (lt mag (rule .dull)) Crossing.Dull (left rule vs ts ns n us pos t exit) (λ _. tt) (λ _. left-in pos t exit h (exit-in (rule .dull) vs ts t pos _ entry))
 
   pub crossing-in : (gs : List Float) (step : Float) (pos : Point) (t entry : ℕ) → t < n → CrossingIn n (crossing rule vs ts ns n us gs step pos t entry)
   unfolding crossing

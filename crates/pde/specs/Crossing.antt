@@ -74,7 +74,7 @@ left rule vs ts ns count us pos t Exit.Nothing = Crossing.Stuck
 unfoldable pub crossingAlong : Rule → List Float → List ℕ → List ℕ → ℕ → List Float → Point → Float → Point → ℕ → ℕ → Crossing
 crossingAlong rule vs ts ns count us g step pos t entry =
     let mag = magnitude g in
-    pick (lt mag (rule .dull)) Crossing.Dull (left rule vs ts ns count us pos t (exitEdge vs ts t pos (direction step g mag) entry))
+    pick (lt mag (rule .dull)) Crossing.Dull (left rule vs ts ns count us pos t (exitEdge (rule .dull) vs ts t pos (direction step g mag) entry))
 
 -- the same where gs has the gradients of all triangles
 unfoldable pub crossing : Rule → List Float → List ℕ → List ℕ → ℕ → List Float → List Float → Float → Point → ℕ → ℕ → Crossing

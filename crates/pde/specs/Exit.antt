@@ -5,7 +5,6 @@ use mathlib.Core.List.{List}
 use lib.Dec.{eqb}
 use lib.Ieee.{Float, inf, lt}
 use Rattle.binary64.specs.Arith.{_⊕_, _⊖_, _⊗_}
-use Rattle.binary64.specs.Constants.{small}
 use Rattle.binary64.specs.Number.{pick}
 use Rattle.binary64.specs.Root.{root}
 use Rattle.plane.specs.declared.Point.{Point}
@@ -37,23 +36,23 @@ pub record Nearest : Type 0 where
 abbrev pub nearest : Float → Exit → Nearest
 nearest d e = record { far = d; exit = e }
 
--- a hit counts where it is farther than 1e-12 and nearer than the best
-abbrev pub offered : Point → ℕ → Hit → Nearest → Nearest
-offered pos e (Hit.At p) best = let d = distance pos p in pick (lt small d && lt d (best .far)) (nearest d (Exit.Through e p)) best
-offered pos e Hit.Nothing best = best
+-- a hit counts where it is farther than the least and nearer than the best
+abbrev pub offered : Float → Point → ℕ → Hit → Nearest → Nearest
+offered least pos e (Hit.At p) best = let d = distance pos p in pick (lt least d && lt d (best .far)) (nearest d (Exit.Through e p)) best
+offered least pos e Hit.Nothing best = best
 
 -- edge e, unless it is the entry edge
-unfoldable pub considered : List Float → List ℕ → ℕ → Point → Point → ℕ → ℕ → Nearest → Nearest
-considered vs ts t pos dir entry e best =
-    pick (eqb e entry) best (offered pos e (rayLineIntersection pos dir (vertex vs (corner ts t e)) (vertex vs (corner ts t (onward e)))) best)
+unfoldable pub considered : Float → List Float → List ℕ → ℕ → Point → Point → ℕ → ℕ → Nearest → Nearest
+considered least vs ts t pos dir entry e best =
+    pick (eqb e entry) best (offered least pos e (rayLineIntersection pos dir (vertex vs (corner ts t e)) (vertex vs (corner ts t (onward e)))) best)
 
 -- the first k edges in order
-unfoldable pub nearestOf : List Float → List ℕ → ℕ → Point → Point → ℕ → ℕ → Nearest
-nearestOf vs ts t pos dir entry zero = nearest (inf false) Exit.Nothing
-nearestOf vs ts t pos dir entry (suc e) = considered vs ts t pos dir entry e (nearestOf vs ts t pos dir entry e)
+unfoldable pub nearestOf : Float → List Float → List ℕ → ℕ → Point → Point → ℕ → ℕ → Nearest
+nearestOf least vs ts t pos dir entry zero = nearest (inf false) Exit.Nothing
+nearestOf least vs ts t pos dir entry (suc e) = considered least vs ts t pos dir entry e (nearestOf least vs ts t pos dir entry e)
 
-abbrev pub exitEdge : List Float → List ℕ → ℕ → Point → Point → ℕ → Exit
-exitEdge vs ts t pos dir entry = nearestOf vs ts t pos dir entry 3 .exit
+abbrev pub exitEdge : Float → List Float → List ℕ → ℕ → Point → Point → ℕ → Exit
+exitEdge least vs ts t pos dir entry = nearestOf least vs ts t pos dir entry 3 .exit
 
 -- the same of one whose distance is known by its square
 abbrev pub rooted : Candidate → Nearest

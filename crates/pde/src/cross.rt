@@ -152,7 +152,7 @@ pub fn crossing(
         return Crossing::Dull;
     }
     let dir = direction(step, g, mag);
-    let best = edges::find_exit_edge(floats, words, m, t, pos, dir, entry);
+    let best = edges::find_exit_edge(floats, words, m, t, pos, dir, entry, rule.dull);
     let exit = best.exit;
     let Exit::Through(e, p) = exit else {
         return Crossing::Stuck;

@@ -25,15 +25,15 @@ pub fn distance(p: Point, q: Point) -> f64
     binary64::root::sqrt(squared(p, q))
 }
 
-// The nearer of a hit on edge e, if it is farther than 1e-12, and the best so far.
-fn offered(pos: Point, e: usize, hit: Hit, best: Candidate) -> Candidate
-    ensures { λ r. ⌜ Exits.rooted r ≡ Exits.offered pos e hit (Exits.rooted best) ⌝ }
+// The nearer of a hit on edge e, if it is farther than the least, and the best so far.
+fn offered(pos: Point, e: usize, hit: Hit, best: Candidate, least: f64) -> Candidate
+    ensures { λ r. ⌜ Exits.rooted r ≡ Exits.offered least pos e hit (Exits.rooted best) ⌝ }
 {
     let Hit::At(p) = hit else {
         return best;
     };
     let square = squared(pos, p);
-    if binary64::distance::is_nearer(square, best.square) {
+    if binary64::distance::is_nearer(square, best.square, least) {
         return Candidate {
             square,
             exit: Exit::Through(e, p),
@@ -53,9 +53,10 @@ fn considered(
     entry: usize,
     e: usize,
     best: Candidate,
+    least: f64,
 ) -> Candidate
     requires { ⌜ (Meshed (now floats) (now words) m) × (t < m .t) × (e < 3) ⌝ }
-    ensures { λ r. ⌜ Exits.rooted r ≡ Exits.considered (verticesOf (now (floats .entry)) m) (trianglesOf (now (words .entry)) m) t pos dir entry e (Exits.rooted best) ⌝ }
+    ensures { λ r. ⌜ Exits.rooted r ≡ Exits.considered least (verticesOf (now (floats .entry)) m) (trianglesOf (now (words .entry)) m) t pos dir entry e (Exits.rooted best) ⌝ }
 {
     if e == entry {
         return best;
@@ -66,10 +67,10 @@ fn considered(
     let pa = mesh::vertex(floats, m, a);
     let pb = mesh::vertex(floats, m, b);
     let hit = plane::get_ray_line_intersection(pos, dir, pa, pb);
-    offered(pos, e, hit, best)
+    offered(pos, e, hit, best, least)
 }
 
-// The nearest edge that the ray from `pos` along `dir` meets in triangle t, with the point and the square of how far it is.
+// The nearest edge that the ray from `pos` along `dir` meets in triangle t farther than the least, with the point and the square of how far it is.
 pub fn find_exit_edge(
     floats: &[f64],
     words: &[u32],
@@ -78,16 +79,17 @@ pub fn find_exit_edge(
     pos: Point,
     dir: Point,
     entry: usize,
+    least: f64,
 ) -> Candidate
     requires { ⌜ (Meshed (now floats) (now words) m) × (t < m .t) ⌝ }
-    ensures { λ r. ⌜ Exits.rooted r ≡ Exits.nearestOf (verticesOf (now (floats .entry)) m) (trianglesOf (now (words .entry)) m) t pos dir entry 3 ⌝ }
+    ensures { λ r. ⌜ Exits.rooted r ≡ Exits.nearestOf least (verticesOf (now (floats .entry)) m) (trianglesOf (now (words .entry)) m) t pos dir entry 3 ⌝ }
 {
     let mut best = Candidate {
         square: 1.0 / 0.0,
         exit: Exit::Nothing,
     };
     for e in 0..3usize {
-        best = considered(floats, words, m, t, pos, dir, entry, e, best);
+        best = considered(floats, words, m, t, pos, dir, entry, e, best, least);
     }
     best
 }

@@ -44,7 +44,7 @@ pub enum Crossing {
     Leaves(Point, usize, Beyond),
 }
 
-// The thresholds: the least magnitude of a gradient, the value at which the path ends, and the longest piece.
+// The thresholds: the least magnitude of a gradient and distance of an exit, the value at which the path ends, and the longest piece.
 pub struct Rule {
     pub dull: f64,
     pub above: f64,

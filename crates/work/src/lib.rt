@@ -83,7 +83,7 @@ pub struct Run {
 impl Run {
     // p·Ap, and twice a triangle's area, count as zero below this.
     pub const TINY: f64 = 1e-30;
-    // A gradient is too small below this.
+    // A gradient is too small below this, and an exit too near up to this.
     pub const DULL: f64 = 1e-12;
     // The path ends where the field is above this.
     pub const ABOVE: f64 = 0.99;

@@ -40,7 +40,7 @@ beyond-requires : tie.Need-beyond-requires
 beyond-requires c κs =
     let p = c .before .before .before .before .before .before .before .before .before .before .before .pre in
     let found = c .before .before .before .before .find-exit-edge .ensures in
-    (p .0, p .1, exit-of (subst ExitIn (sym (ap (λ (n : Nearest). n .exit) found)) (exit-in _ _ _ _ _ _)) (c .before .before .exit .given .1))
+    (p .0, p .1, exit-of (subst ExitIn (sym (ap (λ (n : Nearest). n .exit) found)) (exit-in _ _ _ _ _ _ _)) (c .before .before .exit .given .1))
 
 returns-3 : tie.Need-returns-3
 returns-3 c =

@@ -10,13 +10,13 @@ use Rattle.pde.proofs.edges.find_exit_edge.Statement.{statement}
 use Rattle.pde.proofs.edges.find_exit_edge.Tie as tie
 
 abbrev Inv-loop : tie.InvT-loop
-Inv-loop floats words m t pos dir entry best₀ e₀ best e = (e ≤ 3) × (rooted best ≡ nearestOf (verticesOf floats m) (trianglesOf words m) t pos dir entry e)
+Inv-loop floats words m t pos dir entry least best₀ e₀ best e = (e ≤ 3) × (rooted best ≡ nearestOf least (verticesOf floats m) (trianglesOf words m) t pos dir entry e)
 
 abbrev μ-loop : tie.MeasureT-loop
-μ-loop floats words m t pos dir entry best₀ e₀ best e = 3 - e
+μ-loop floats words m t pos dir entry least best₀ e₀ best e = 3 - e
 
 loop-holds : tie.Need-loop-holds Inv-loop μ-loop
-loop-holds c = (omega arith, nearest-none _ _ _ _ _ _)
+loop-holds c = (omega arith, nearest-none _ _ _ _ _ _ _)
 
 considered-requires : tie.Need-considered-requires Inv-loop μ-loop
 considered-requires c κs = search needs
@@ -28,10 +28,10 @@ loop-less : tie.Need-loop-less Inv-loop μ-loop
 loop-less c = search needs
 
 loop-again : tie.Need-loop-again Inv-loop μ-loop
-loop-again c = (omega arith, nearest-step _ _ _ _ _ _ _ (c .considered .ensures) (c .before .before .loop .inv .1))
+loop-again c = (omega arith, nearest-step _ _ _ _ _ _ _ _ (c .considered .ensures) (c .before .before .loop .inv .1))
 
 returns : tie.Need-returns Inv-loop μ-loop
-returns c = nearest-done _ _ _ _ _ _ (c .loop-test .left) (c .before .loop .inv .0) (c .before .loop .inv .1)
+returns c = nearest-done _ _ _ _ _ _ _ (c .loop-test .left) (c .before .loop .inv .0) (c .before .loop .inv .1)
 
 pub find-exit-edge-spec : {M : Type 1} → statement M
 find-exit-edge-spec =
