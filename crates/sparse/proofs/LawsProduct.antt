@@ -1,12 +1,13 @@
 -- The product by rows: an entry more, the partial sums of a row, a row from the parts that are lent, a row more. Assumes nothing.
 use mathlib.Core.Path.{_≡_, refl, sym, ap, _∙_}
-use mathlib.Core.Logic.{⊎-elim}
+use mathlib.Core.Logic.{_⊎_, inl, inr, ⊎-elim}
 use mathlib.Core.List.{List, [], _∷_, _++_}
-use Prim.Native.Nat.{ℕ, suc, _+_, _-_, _≤_, _<_}
+use Prim.Native.Nat.{ℕ, zero, suc, _+_, _-_, _≤_, _<_}
 use native.Mathlib.Nat.{add-zero, add-assoc}
 use native.Mathlib.Numerals.{add-one}
 use native.Mathlib.Omega.{arith}
-use lib.ListN.{length, take, drop, getD, set}
+use lib.ListN.{length, take, drop, getD, set, List·getD-append}
+use lib.Seq.{getD-append-add}
 use lib.Ieee.{Float, nan}
 use Rattle.binary64.specs.Arith.{_⊕_, _⊗_}
 use Rattle.binary64.specs.Constants.{plusZero}
@@ -16,8 +17,8 @@ use Rattle.stretch.specs.Vec.{dot, dotFrom}
 use Rattle.stretch.specs.VecLaws.{dot-snoc}
 use Rattle.sparse.specs.declared.Csr.{Csr}
 use Rattle.sparse.specs.Sparse.{Entry, entry, rowFrom, rowProduct, matVec, entries}
-use Rattle.sparse.specs.Stored.{start, end, rowAt, rowsOf, Below}
-use Rattle.sparse.specs.Product.{Apart, Multiplies, Row, PartialSum, RowAt, rowFromTo, Multiplied}
+use Rattle.sparse.specs.Stored.{start, end, rowAt, rowsOf, matrix, Below}
+use Rattle.sparse.specs.Product.{Apart, Multiplies, Beside, Row, PartialSum, RowAt, rowFromTo, Multiplied}
 use Rattle.sparse.specs.ProductLaws.{length-rows}
 
 -- ---- a row
@@ -92,22 +93,36 @@ pub lent-at {ℓ} : {A : Type ℓ} (l : List A) (a e i k : ℕ) (d : A) → a + 
 unfolding part
 lent-at l a e i k d h is = getD-part l a (e - a) i d (omega arith) ∙ ap (λ (j : ℕ). getD l j d) (sym is)
 
-module _ (words : List ℕ) (floats : List Float) (m : Csr) (p from to : ℕ) (r : RowAt words (length floats) m p from to) where
-  pub row-lent : Row (lent words (m .cols) (m .count)) (length (lent floats (m .vals) (m .count))) (length (lent floats p (m .rows))) from to
-  row-lent =
-      let c : length (part words (m .cols) (m .count)) ≡ m .count = length-part words (m .cols) (m .count) (r .columns-fit) in
-      let v : length (part floats (m .vals) (m .count)) ≡ m .count = length-part floats (m .vals) (m .count) (r .values-fit) in
-      let x : length (part floats p (m .rows)) ≡ m .rows = length-part floats p (m .rows) (r .vector-fits) in
+-- with a vector x, wherever it stands
+module _ (words : List ℕ) (floats : List Float) (m : Csr) (from to : ℕ) (x : List Float) (rise : from ≤ to) (ends : to ≤ m .count) (columns-fit : m .cols + m .count ≤ length words)
+    (values-fit : m .vals + m .count ≤ length floats) (below : Below words (m .cols) (m .rows) (m .count)) (long : length x ≡ m .rows) where
+  row-of-parts : Row (lent words (m .cols) (m .count)) (length (lent floats (m .vals) (m .count))) (length x) from to
+  row-of-parts =
+      let c : length (part words (m .cols) (m .count)) ≡ m .count = length-part words (m .cols) (m .count) columns-fit in
+      let v : length (part floats (m .vals) (m .count)) ≡ m .count = length-part floats (m .vals) (m .count) values-fit in
       let b : Below (part words (m .cols) (m .count)) from (m .rows) (to - from) =
-      record { at = λ j h. rw (getD-part words (m .cols) (m .count) (from + j) 0 (omega arith)) (r .below .at (from + j) (omega arith)) } in
-      rw (lent-part words (m .cols) (m .count), lent-part floats (m .vals) (m .count), lent-part floats p (m .rows)) (record { rise = r .rise; columns-fit = omega arith; values-fit = omega arith; below = rw x b })
+      record { at = λ j h. rw (getD-part words (m .cols) (m .count) (from + j) 0 (omega arith)) (below .at (from + j) (omega arith)) } in
+      rw (lent-part words (m .cols) (m .count), lent-part floats (m .vals) (m .count)) (record { rise = rise; columns-fit = omega arith; values-fit = omega arith; below = rw long b })
+
+  row-of-parts-is : (y : Float) → y ≡ rowProduct (entries (part (lent words (m .cols) (m .count)) from (to - from)) (part (lent floats (m .vals) (m .count)) from (to - from))) x
+      → y ≡ rowProduct (rowFromTo words floats m from to) x
+  row-of-parts-is y e =
+      e
+      ∙ rw (lent-part words (m .cols) (m .count), lent-part floats (m .vals) (m .count), part-part words (m .cols) (m .count) from (to - from) (omega arith), part-part floats (m .vals) (m .count) from (to - from) (omega arith))
+
+module _ (words : List ℕ) (floats : List Float) (m : Csr) (p from to : ℕ) (r : RowAt words (length floats) m p from to) where
+  lent-long : length (lent floats p (m .rows)) ≡ m .rows
+  lent-long = ap length (lent-part floats p (m .rows)) ∙ length-part floats p (m .rows) (r .vector-fits)
+
+  pub row-lent : Row (lent words (m .cols) (m .count)) (length (lent floats (m .vals) (m .count))) (length (lent floats p (m .rows))) from to
+  row-lent = row-of-parts words floats m from to (lent floats p (m .rows)) (r .rise) (r .end-fits) (r .columns-fit) (r .values-fit) (r .below) lent-long
 
   pub row-lent-is : (y : Float)
       → y ≡ rowProduct (entries (part (lent words (m .cols) (m .count)) from (to - from)) (part (lent floats (m .vals) (m .count)) from (to - from))) (lent floats p (m .rows))
       → y ≡ rowProduct (rowFromTo words floats m from to) (part floats p (m .rows))
   row-lent-is y e =
-      e
-      ∙ rw (lent-part words (m .cols) (m .count), lent-part floats (m .vals) (m .count), lent-part floats p (m .rows), part-part words (m .cols) (m .count) from (to - from) (omega arith), part-part floats (m .vals) (m .count) from (to - from) (omega arith))
+      row-of-parts-is words floats m from to (lent floats p (m .rows)) (r .rise) (r .end-fits) (r .columns-fit) (r .values-fit) (r .below) lent-long y e
+      ∙ ap (rowProduct (rowFromTo words floats m from to)) (lent-part floats p (m .rows))
 
 matVec-snoc : (rs : List (List Entry)) (r : List Entry) (x : List Float) → matVec (rs ++ (r ∷ [])) x ≡ matVec rs x ++ (rowProduct r x ∷ [])
 unfolding matVec
@@ -121,6 +136,41 @@ matVec-none w s m x = refl
 matVec-suc : (w : List ℕ) (s : List Float) (m : Csr) (i : ℕ) (x : List Float) → matVec (rowsOf w s m (suc i)) x ≡ matVec (rowsOf w s m i) x ++ (rowProduct (rowAt w s m i) x ∷ [])
 unfolding rowsOf
 matVec-suc w s m i x = matVec-snoc (rowsOf w s m i) (rowAt w s m i) x
+
+le-or-last : (i k : ℕ) → i ≤ k → (i < k) ⊎ (i ≡ k)
+le-or-last i zero h = inr (omega arith)
+le-or-last zero (suc k) h = inl (omega arith)
+le-or-last (suc i) (suc k) h = ⊎-elim (λ l. inl (omega arith)) (λ e. inr (omega arith)) (le-or-last i k (omega arith))
+
+-- element i of the product is that of row i
+matVec-at : (w : List ℕ) (s : List Float) (m : Csr) (x : List Float) (k i : ℕ) → i < k → getD (matVec (rowsOf w s m k) x) i nan ≡ rowProduct (rowAt w s m i) x
+matVec-at w s m x zero i h = absurd (omega arith)
+matVec-at w s m x (suc k) i h =
+    let done : List Float = matVec (rowsOf w s m k) x in
+    let new : List Float = rowProduct (rowAt w s m k) x ∷ [] in
+    let e : length done ≡ k = length-rows w s m k x in
+    let end-is : length done + 0 ≡ k = omega arith in
+    rw matVec-suc (⊎-elim
+    (λ (l : i < k). List·getD-append done new nan i (omega arith) ∙ matVec-at w s m x k i l)
+    (λ (j : i ≡ k). ap (λ (o : ℕ). getD (done ++ new) o nan) (j ∙ sym end-is) ∙ getD-append-add done new 0 nan ∙ ap (λ (o : ℕ). rowProduct (rowAt w s m o) x) (sym j))
+    (le-or-last i k (omega arith)))
+
+-- ---- a row of the stored matrix with a vector elsewhere
+
+module _ (words : List ℕ) (floats : List Float) (m : Csr) (x : List Float) (i from to : ℕ) (b : Beside words (length floats) m (length x)) (h : i < m .rows)
+    (from-is : from ≡ start words m i) (to-is : to ≡ end words m i) where
+  pub with-none : PartialSum (lent words (m .cols) (m .count)) (lent floats (m .vals) (m .count)) x from to from plusZero
+  with-none =
+      let r = b .sound .rising .at i h in
+      sum-none _ x (row-of-parts words floats m from to x (omega arith) (omega arith) (b .sound .columns-fit) (b .values-fit) (b .sound .below) (b .vector-long))
+
+  pub with-is : (y : Float) → y ≡ rowProduct (entries (part (lent words (m .cols) (m .count)) from (to - from)) (part (lent floats (m .vals) (m .count)) from (to - from))) x
+      → y ≡ getD (matVec (matrix words floats m) x) i nan
+  unfolding rowAt
+  with-is y e =
+      let r = b .sound .rising .at i h in
+      row-of-parts-is words floats m from to x (omega arith) (omega arith) (b .sound .columns-fit) (b .values-fit) (b .sound .below) (b .vector-long) y e
+      ∙ rw (from-is, to-is) (sym (matVec-at words floats m x (m .rows) i h))
 
 -- ---- the loop over the rows: s is the buffer at entry, l after i rows
 

@@ -25,6 +25,12 @@ pub record Multiplies (words : List ℕ) (l : ℕ) (m : Csr) (at p : ℕ) : Type
   pub vector-apart : Apart at (m .rows) p (m .rows)
   pub values-apart : Apart at (m .rows) (m .vals) (m .count)
 
+-- A sound matrix whose values are in a buffer of l floats, and a vector of k elsewhere.
+pub record Beside (words : List ℕ) (l : ℕ) (m : Csr) (k : ℕ) : Type 0 where
+  pub sound : Sound words m
+  pub values-fit : m .vals + m .count ≤ l
+  pub vector-long : k ≡ m .rows
+
 -- Entries from `from` up to `to` among v columns and values, with columns below n.
 pub record Row (cols : List ℕ) (v n from to : ℕ) : Type 0 where
   pub rise : from ≤ to

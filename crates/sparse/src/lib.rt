@@ -5,7 +5,8 @@ ghost use lib.ListN.{length, getD};
 ghost use lib.Ieee.{nan};
 ghost use Rattle.binary64.specs.Arith.{_⊕_, _⊗_};
 ghost use Rattle.stretch.specs.Stretch.{part};
-ghost use Rattle.sparse.specs.Sparse.{rowProduct, entries};
+ghost use Rattle.sparse.specs.Sparse.{rowProduct, entries, matVec};
+ghost use Rattle.sparse.specs.Stored.{matrix};
 ghost use Rattle.sparse.specs.Scan as Scan;
 ghost use Rattle.sparse.specs.Product as Product;
 
@@ -201,4 +202,19 @@ pub fn product(floats: &mut [f64], words: &[u32], m: Csr, at: usize, p: usize) -
         from = to;
     }
     total
+}
+
+// Element i of the product of the matrix with a vector in a slice of its own.
+pub fn row_with(floats: &[f64], words: &[u32], m: Csr, x: &[f64], i: usize) -> f64
+    requires { ⌜ Product.Beside (now words) (length (now floats)) m (length (now x)) × (i < m .rows) ⌝ }
+    ensures { λ r. ⌜ r ≡ getD (matVec (matrix (now (words .entry)) (now (floats .entry)) m) (now (x .entry))) i nan ⌝ }
+{
+    let s = m.starts + i;
+    let from = word(words, s);
+    let to = word(words, s + 1);
+    let c = m.cols;
+    let c_end = c + m.count;
+    let v = m.vals;
+    let v_end = v + m.count;
+    rest(&words[c..c_end], &floats[v..v_end], x, from, from, to, 0.0)
 }
