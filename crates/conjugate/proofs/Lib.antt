@@ -1,3 +1,4 @@
 pub mod LawsTriple
 pub mod LawsLoops
 pub mod LawsPass
+pub mod LawsBeside

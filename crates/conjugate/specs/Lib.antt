@@ -2,3 +2,5 @@ pub mod Solver
 pub mod SolverLaws
 pub mod Placed
 pub mod PlacedLaws
+pub mod Beside
+pub mod BesideLaws

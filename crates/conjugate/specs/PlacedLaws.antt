@@ -76,7 +76,7 @@ read-long s at n rs row =
     record { x-long = length-part s (at .x) n (omega arith); r-long = length-part s (at .r) n (omega arith); p-long = length-part s (at .p) n (omega arith) }
 
 -- what a pass leaves is the vectors after it, put down
-stored-placed : (s : List Float) (n : ℕ) (at : Vectors) (rs : Float) (t : Turn) → InRow (length s) at n → Long n (after (read s at n rs) t)
+pub stored-placed : (s : List Float) (n : ℕ) (at : Vectors) (rs : Float) (t : Turn) → InRow (length s) at n → Long n (after (read s at n rs) t)
     → storedAfter n s at t ≡ placed n s at (after (read s at n rs) t)
 unfolding storedAfter placed
 stored-placed s n at rs halted row long = simp splice-part

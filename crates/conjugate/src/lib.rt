@@ -1,10 +1,13 @@
 // Conjugate gradients on vectors in one lent buffer: place 0, and one pass.
-ghost use Prim.Native.Nat.{_+_, _≤_};
+ghost use mathlib.Core.Path.{_≡_};
+ghost use Prim.Native.Nat.{_+_, _*_, _≤_, _<_};
 ghost use mathlib.Core.List.{zipWith};
-ghost use lib.ListN.{length};
+ghost use lib.ListN.{length, getD};
+ghost use lib.Ieee.{nan};
 ghost use Rattle.stretch.specs.Stretch.{part, Wrote};
 ghost use Rattle.stretch.specs.Vec as Vec;
 ghost use Rattle.conjugate.specs.Placed as Placed;
+ghost use Rattle.conjugate.specs.Beside as Beside;
 use sparse::Csr;
 
 // Where the vectors of a pass start.
@@ -118,4 +121,79 @@ pub fn begin(floats: &mut [f64], words: &[u32], m: Csr, at: Vectors, b: usize) -
     stretch::fill(floats, x, n, 0.0);
     sparse::product(floats, words, m, q, x);
     residual(floats, at, b, n)
+}
+
+// ---- a pass on vectors in a buffer of their own: x, r and p one after the other
+
+// Element i of the product of the matrix with p.
+fn product_at(vectors: &[f64], floats: &[f64], words: &[u32], m: Csr, i: usize) -> f64
+    requires { ⌜ Beside.Beside (now words) (length (now floats)) m (length (now vectors)) × (i < m .rows) ⌝ }
+    ensures { λ r. ⌜ r ≡ getD (Beside.productOf (now (words .entry)) (now (floats .entry)) m (now (vectors .entry))) i nan ⌝ }
+{
+    let p = 2 * m.rows;
+    let p_end = p + m.rows;
+    sparse::row_with(floats, words, m, &vectors[p..p_end], i)
+}
+
+// p·Ap.
+fn curvature(vectors: &[f64], floats: &[f64], words: &[u32], m: Csr) -> f64
+    requires { ⌜ Beside.Beside (now words) (length (now floats)) m (length (now vectors)) ⌝ }
+    ensures { λ r. ⌜ r ≡ Vec.dot (part (now (vectors .entry)) (2 * m .rows) (m .rows)) (Beside.productOf (now (words .entry)) (now (floats .entry)) m (now (vectors .entry))) ⌝ }
+{
+    let n = m.rows;
+    let mut sum = 0.0;
+    for i in 0..n {
+        let q = product_at(vectors, floats, words, m, i);
+        let k = 2 * n + i;
+        sum = sum + vectors[k] * q;
+    }
+    sum
+}
+
+// x + alpha p and r − alpha q, where q is the product, worked out again. Answers the new r·r.
+fn step_beside(vectors: &mut [f64], floats: &[f64], words: &[u32], m: Csr, alpha: f64) -> f64
+    requires { ⌜ Beside.Beside (now words) (length (now floats)) m (length (now vectors)) ⌝ }
+    ensures { λ r. ⌜ Beside.SteppedBeside (now (vectors .entry)) (now (vectors .exit)) (Beside.productOf (now (words .entry)) (now (floats .entry)) m (now (vectors .entry))) (m .rows) alpha (m .rows) r ⌝ }
+{
+    let n = m.rows;
+    let mut sum = 0.0;
+    for i in 0..n {
+        let q = product_at(vectors, floats, words, m, i);
+        let b = n + i;
+        let c = 2 * n + i;
+        let u = vectors[i] + alpha * vectors[c];
+        let v = vectors[b] - alpha * q;
+        vectors[i] = u;
+        vectors[b] = v;
+        sum = sum + v * v;
+    }
+    sum
+}
+
+// One pass from the vectors, with rs = r·r; the matrix stands in the floats and the words.
+pub fn pass_beside(
+    vectors: &mut [f64],
+    floats: &[f64],
+    words: &[u32],
+    m: Csr,
+    tiny: f64,
+    tolerance: f64,
+    rs: f64,
+) -> Pass
+    requires { ⌜ Beside.Beside (now words) (length (now floats)) m (length (now vectors)) ⌝ }
+    ensures { λ r. ⌜ Beside.PassedBeside (now (vectors .entry)) (now (vectors .exit)) (m .rows)
+        (Beside.turnBeside (now (words .entry)) (now (floats .entry)) m (now (vectors .entry)) tiny tolerance rs) r ⌝ }
+{
+    let n = m.rows;
+    let pap = curvature(vectors, floats, words, m);
+    if binary64::abs(pap) < tiny {
+        return Pass::Halted;
+    }
+    let next = step_beside(vectors, floats, words, m, rs / pap);
+    let norm = binary64::root::sqrt(next);
+    if norm < tolerance {
+        return Pass::Reached(norm);
+    }
+    direct(vectors, n, 2 * n, n, next / rs);
+    Pass::Moved(next, norm)
 }

@@ -196,7 +196,7 @@ module _ (rule : Rule) (vs : List Float) (ts ns : List ℕ) (n : ℕ) (us : List
   left-in pos t (Exit.Through e p) h k = entering-in n (rule .above) vs ts us p _ _ (entered-in ts ns n inside t e h k) (unentered-in n _)
   left-in pos t Exit.Nothing h k = tt
 
-  along-in : (g : Point) (step : Float) (pos : Point) (t entry : ℕ) → t < n → CrossingIn n (crossingAlong rule vs ts ns n us g step pos t entry)
+  pub along-in : (g : Point) (step : Float) (pos : Point) (t entry : ℕ) → t < n → CrossingIn n (crossingAlong rule vs ts ns n us g step pos t entry)
   unfolding crossingAlong
   along-in g step pos t entry h =
       let mag = magnitude g in
