@@ -67,7 +67,7 @@ fn passes_fault(run: Run, target: usize, floats: &[f64], words: &[u32]) -> u32
     if !over(run.passes, k) {
         return 0;
     }
-    let more = work::dry::dry_gain(floats, words, plan, stand, k);
+    let more = dry::dry_gain(floats, words, plan, stand, k);
     if over(run.passes, more) { 10 } else { 0 }
 }
 

@@ -24,7 +24,7 @@ use Rattle.sparse.specs.Product as Product
 use Rattle.sparse.specs.ProductLaws.{length-product}
 use Rattle.conjugate.specs.declared.Pass.the-variants.{Halted, Reached, Moved}
 use Rattle.conjugate.specs.Solver.{Solve, halted, reached, moved}
-use Rattle.conjugate.specs.SolverLaws.{papOf, nextX, nextR, nextSum, nextOf, pass-halted, pass-reached, pass-moved}
+use Rattle.conjugate.specs.SolverLaws.{nextX, nextR, nextSum, nextOf, pass-halted, pass-reached, pass-moved}
 use Rattle.conjugate.specs.Placed.{answerOf}
 use Rattle.conjugate.specs.Beside.{Beside, vectorsOf, productOf, leftBy, turnBeside, PassedBeside, movedX, movedR, SteppedBeside}
 
@@ -174,10 +174,6 @@ module _ (words : List ℕ) (floats : List Float) (m : Csr) (v : List Float) (b 
 
       stands : l ≡ splice (splice v 0 (nextX (matrix words floats m) (vectorsOf v (m .rows) rs))) (m .rows) (nextR (matrix words floats m) (vectorsOf v (m .rows) rs))
       stands = st .left ∙ rw (x-is, r-is)
-
-      -- p fits behind them
-      pub for-direction : (2 * m .rows + m .rows ≤ length l) × (m .rows + m .rows ≤ 2 * m .rows)
-      for-direction = let e : length l ≡ length v = ap length stands ∙ length-splice _ _ _ ∙ length-splice _ _ _ in (omega (arith, b .vectors-fit), omega arith)
 
       module _ (norm : Float) (norm-is : norm ≡ root next) (h : lt (absOf pap) tiny ≡ false) where
         pub reaches : lt norm tolerance ≡ true → PassedBeside v l (m .rows) (turnBeside words floats m v tiny tolerance rs) (Reached norm)

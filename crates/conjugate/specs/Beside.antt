@@ -2,7 +2,6 @@
 use mathlib.Core.Path.{_≡_}
 use mathlib.Core.List.{List, zipWith}
 use Prim.Native.Nat.{ℕ, _+_, _*_, _≤_}
-use lib.ListN.{length}
 use lib.Ieee.{Float}
 use Rattle.stretch.specs.Stretch.{part, splice}
 use Rattle.stretch.specs.Vec.{dot, plus, less}

@@ -141,13 +141,13 @@ fn curvature(vectors: &[f64], floats: &[f64], words: &[u32], m: Csr) -> f64
     ensures { λ r. ⌜ r ≡ Vec.dot (part (now (vectors .entry)) (2 * m .rows) (m .rows)) (Beside.productOf (now (words .entry)) (now (floats .entry)) m (now (vectors .entry))) ⌝ }
 {
     let n = m.rows;
-    let mut sum = 0.0;
+    let mut pap = 0.0;
     for i in 0..n {
         let q = product_at(vectors, floats, words, m, i);
         let k = 2 * n + i;
-        sum = sum + vectors[k] * q;
+        pap = pap + vectors[k] * q;
     }
-    sum
+    pap
 }
 
 // x + alpha p and r − alpha q, where q is the product, worked out again. Answers the new r·r.
@@ -156,7 +156,7 @@ fn step_beside(vectors: &mut [f64], floats: &[f64], words: &[u32], m: Csr, alpha
     ensures { λ r. ⌜ Beside.SteppedBeside (now (vectors .entry)) (now (vectors .exit)) (Beside.productOf (now (words .entry)) (now (floats .entry)) m (now (vectors .entry))) (m .rows) alpha (m .rows) r ⌝ }
 {
     let n = m.rows;
-    let mut sum = 0.0;
+    let mut square = 0.0;
     for i in 0..n {
         let q = product_at(vectors, floats, words, m, i);
         let b = n + i;
@@ -165,9 +165,9 @@ fn step_beside(vectors: &mut [f64], floats: &[f64], words: &[u32], m: Csr, alpha
         let v = vectors[b] - alpha * q;
         vectors[i] = u;
         vectors[b] = v;
-        sum = sum + v * v;
+        square = square + v * v;
     }
-    sum
+    square
 }
 
 // One pass from the vectors, with rs = r·r; the matrix stands in the floats and the words.
@@ -189,11 +189,11 @@ pub fn pass_beside(
     if binary64::abs(pap) < tiny {
         return Pass::Halted;
     }
-    let next = step_beside(vectors, floats, words, m, rs / pap);
-    let norm = binary64::root::sqrt(next);
+    let square = step_beside(vectors, floats, words, m, rs / pap);
+    let norm = binary64::root::sqrt(square);
     if norm < tolerance {
         return Pass::Reached(norm);
     }
-    direct(vectors, n, 2 * n, n, next / rs);
-    Pass::Moved(next, norm)
+    direct(vectors, n, 2 * n, n, square / rs);
+    Pass::Moved(square, norm)
 }

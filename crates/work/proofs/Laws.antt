@@ -1,15 +1,15 @@
 -- Laws that the proofs of this crate share. Assumes nothing.
 use mathlib.Core.Path.{_≡_, refl, sym, ap, ap₂, _∙_, subst}
 use mathlib.Core.List.{List, [], _∷_, _++_}
-use Prim.Native.Nat.{ℕ, _+_, _-_, _*_, _≤_, _<_}
+use Prim.Native.Nat.{ℕ, _+_, _*_, _≤_}
 use native.Mathlib.Omega.{arith}
 use native.Mathlib.Numerals.{add-one}
 use mathlib.Core.Bool.{Bool, true, false}
 use lib.Dec.{eqb}
 use Rattle.binary64.specs.Number.{pick}
-use lib.ListN.{length, getD, set, take, drop}
-use lib.Seq.{take-all, take-suc, take-suc-set, length-front}
-use lib.Ieee.{Float, nan}
+use lib.ListN.{length, set, take, drop}
+use lib.Seq.{length-front}
+use lib.Ieee.{Float}
 use Rattle.plane.specs.declared.Point.{Point}
 use Rattle.pde.specs.declared.Crossing.{Crossing}
 use Rattle.pde.specs.Path.{added}
@@ -20,10 +20,9 @@ use Rattle.work.specs.declared.Plan.{Plan}
 use Rattle.work.specs.declared.Stand.{Stand}
 use Rattle.work.specs.declared.Step.{Step}
 use Rattle.work.specs.Layout.{atNorms}
-use Rattle.work.specs.Memory.{floatsGiven, pathGiven, stepOn, once, goes, Work, work, frontOf, beyondFront, Dry, dry}
-use Rattle.work.specs.Dry.{dryOf, dryAt, Dries, gain}
-use Rattle.work.specs.DryLaws.{step-length, dry-over, dry-forth}
-use Rattle.work.specs.StandingLaws.{step-standing, step-place, once-standing, once-place, goes-over}
+use Rattle.work.specs.Memory.{floatsGiven, pathGiven, once, goes, Work, work, frontOf, beyondFront}
+use Rattle.work.specs.DryLaws.{step-length}
+use Rattle.work.specs.StandingLaws.{once-standing, once-place, goes-over}
 use Rattle.work.specs.Ready.{Ready, Standing, Roomy, Writable, Steps, Comes}
 
 -- two stores in a row
@@ -118,57 +117,3 @@ module _ (plan : Plan) (words : List ℕ) where
 
   pub came-place : (s s′ : Stand) (m p m′ p′ : List Float) → Comes (once plan words (work m p s)) s′ m′ p′ → s′ .place ≤ s .place + 1
   came-place s s′ m p m′ p′ c = omega (arith, ap (λ (v : Stand). v .place) (c .stand), once-place plan words (work m p s))
-
--- ---- a dry count
-
--- one element more of the front is copied
-pub copied-more : (to from : List Float) (i : ℕ) → i < length to → i < length from → take i to ≡ take i from → take (i + 1) (set to i (getD from i nan)) ≡ take (i + 1) from
-copied-more to from i h k e = rw (add-one, take-suc-set, take-suc from i nan) (ap (λ (l : List Float). l ++ (getD from i nan ∷ [])) e)
-
-pub copied-all : (to from : List Float) (i k : ℕ) → take i to ≡ take i from → length to ≡ k → i ≡ k → to ≡ take k from
-copied-all to from i k e h j = sym (take-all i to (omega arith)) ∙ e ∙ ap (λ (n : ℕ). take n from) j
-
-dried : {d : Dry} {s : Stand} {f : List Float} → Dries d s f → dryOf f s ≡ d
-dried c = λ i. dryOf (c .front i) (c .stand i)
-
-dries-to : {d d′ : Dry} {s : Stand} {f : List Float} → d ≡ d′ → Dries d s f → Dries d′ s f
-dries-to {s = s} {f = f} e c = subst (λ (x : Dry). Dries x s f) e c
-
-module _ (plan : Plan) (words : List ℕ) where
-  pub dry-none : (s : Stand) (f : List Float) → Dries (dry plan words 0 (dryOf f s)) s f
-  unfolding dry
-  dry-none s f = record { stand = refl; front = refl }
-
-  pub dry-more : (d : Dry) (i : ℕ) (s : Stand) (f : List Float) (r : Step) (f′ : List Float) → Dries (dry plan words i d) s f → Steps plan words f s r f′
-      → Dries (dry plan words (i + 1) d) (r .stand) f′
-  unfolding dry
-  dry-more d i s f r f′ c st =
-      rw add-one (record {
-        stand = st .stand ∙ ap (λ (x : Dry). stepOn plan words (x .front) (x .stand) .stand) (dried c);
-        front = st .front ∙ ap (λ (x : Dry). stepOn plan words (x .front) (x .stand) .front) (dried c);
-      })
-
-  pub dry-ended : (d : Dry) (i k : ℕ) (s : Stand) (f : List Float) → Dries (dry plan words i d) s f → i ≤ k → (s .walk .end ≡ 0 → ⊥) → Dries (dry plan words k d) s f
-  dry-ended d i k s f c h n = dries-to (sym (dry-over plan words d i k h (λ e. n (ap (λ (v : Stand). v .walk .end) (c .stand) ∙ e)))) c
-
-  pub dry-done : (d : Dry) (i k : ℕ) (s : Stand) (f : List Float) → Dries (dry plan words i d) s f → i ≡ k → Dries (dry plan words k d) s f
-  dry-done d i k s f c e = dries-to (ap (λ (j : ℕ). dry plan words j d) e) c
-
-  -- the counts after a step
-  pub steps-standing : (f : List Float) (s : Stand) (r : Step) (f′ : List Float) → Steps plan words f s r f′ → Ready plan words → Standing plan s → Standing plan (r .stand)
-  steps-standing f s r f′ st h k = subst (Standing plan) (sym (st .stand)) (step-standing plan words f s h k)
-
-  pub steps-place : (f : List Float) (s : Stand) (r : Step) (f′ : List Float) → Steps plan words f s r f′ → r .stand .place ≤ s .place + 1
-  steps-place f s r f′ st = omega (arith, ap (λ (v : Stand). v .place) (st .stand), step-place plan words f s)
-
--- the count, from where the passes on the copied front have come
-module _ (plan : Plan) (words : List ℕ) (k : ℕ) (m : List Float) (s : Stand) where
-  copied-front : (l : ℕ) (f : List Float) → l ≡ atNorms (plan .n) (plan .t) → f ≡ take l m → dryOf f s ≡ dryAt plan m s
-  copied-front l f e h = ap (λ (x : List Float). dryOf x s) (h ∙ ap (λ (n : ℕ). take n m) e)
-
-  pub gained : (l : ℕ) (f : List Float) (r : Stand) (f′ : List Float) → l ≡ atNorms (plan .n) (plan .t) → f ≡ take l m → Dries (dry plan words k (dryOf f s)) r f′
-      → r .place - s .place ≡ gain plan words k m s
-  gained l f r f′ e h d = ap (λ (v : Stand). v .place - s .place) (d .stand ∙ ap (λ (x : Dry). dry plan words k x .stand) (copied-front l f e h))
-
-pub gained-forth : (plan : Plan) (words : List ℕ) (k : ℕ) (s : Stand) (f : List Float) (r : Stand) (f′ : List Float) → Dries (dry plan words k (dryOf f s)) r f′ → s .place ≤ r .place
-gained-forth plan words k s f r f′ d = omega (arith, ap (λ (v : Stand). v .place) (d .stand), dry-forth plan words (dryOf f s) k)

@@ -2,7 +2,7 @@
 use mathlib.Core.Path.{_≡_, refl, sym, ap, _∙_}
 use mathlib.Core.Logic.{inl}
 use mathlib.Core.Bool.{Bool}
-use mathlib.Core.List.{List}
+use mathlib.Core.List.{List, []}
 use Prim.Native.Nat.{ℕ, _+_, _*_, _≤_, _<_}
 use native.Mathlib.Omega.{arith}
 use borrow.Author.Tests.{eq-eqb, ne-eqb}
@@ -45,8 +45,8 @@ use Rattle.work.specs.declared.Step.{Step}
 use Rattle.work.specs.Layout.{atX, atR, atP, atProduct, atGradients, atNorms, matrixAt, meshAt, vectorsAt}
 use Rattle.work.specs.Memory.{Stepped, vectorsIn, solvedStand, solvedStep, solveStep, setOut, walkedStand, crossedStand, startBy, beginStep, crossingFrom, crossingOf, crossStep, nextOf, stepOn, work, once}
 use Rattle.work.specs.Ready.{Ready, Standing, Crosses, Steps, Comes}
-use Rattle.work.specs.Kinds.{SetsOut, Searchable, Leads, gradientsPut, foundBy, lostBy}
-use Rattle.work.specs.StartedLaws.{start-is}
+use Rattle.work.specs.Kinds.{SetsOut, Searchable, Leads, gradientsPut, foundIn, foundBy, lostBy}
+use Rattle.work.specs.StartedLaws.{set-out-same, start-is}
 use Rattle.work.specs.StandingLaws.{turnOf, step-over}
 use Rattle.work.proofs.Laws.{pick-small, once-comes}
 
@@ -139,37 +139,44 @@ triangle-in-mesh m plan k e h = rw e h
 
 -- ---- the start pass
 
+pub found-given : (floats : List Float) (words : List ℕ) (m : Mesh) (u : ℕ) (g : Given) (r : Start) (p : Point) → g ≡ Given.At p
+    → r ≡ triangleContaining (verticesOf floats m) (trianglesOf words m) (m .t) p → r ≡ foundIn floats words m u g
+found-given floats words m u g r p eg e = rw eg e
+
+pub found-picked : (floats : List Float) (words : List ℕ) (m : Mesh) (u : ℕ) (g : Given) (r : Start) → g ≡ Given.Nothing
+    → r ≡ pickStart (verticesOf floats m) (trianglesOf words m) (neighboursOf words m) (tagsOf words m) (m .t) (fieldOf floats m u) → r ≡ foundIn floats words m u g
+found-picked floats words m u g r eg e = rw eg e
+
 module _ (plan : Plan) (words : List ℕ) (f : List Float) (m : Mesh) (em : m ≡ meshAt (plan .n) (plan .t)) where
   pub gradients-put : (f′ : List Float) (u at : ℕ) → u ≡ atX (plan .n) (plan .t) → at ≡ atGradients (plan .n) (plan .t) → f′ ≡ splice f at (gradientsIn flat f words m u) → f′ ≡ gradientsPut plan words f
   unfolding verticesOf trianglesOf
   gradients-put f′ u at eu ea e = rw (em, eu, ea) at e
 
-  pub found-given : (r : Start) (p : Point) → plan .start ≡ Given.At p → r ≡ triangleContaining (verticesOf f m) (trianglesOf words m) (m .t) p → r ≡ foundBy plan words f (plan .start)
-  unfolding verticesOf trianglesOf
-  found-given r p eg e = rw eg (rw em at e)
-
-  pub found-picked : (r : Start) (u : ℕ) → plan .start ≡ Given.Nothing → u ≡ atX (plan .n) (plan .t)
-      → r ≡ pickStart (verticesOf f m) (trianglesOf words m) (neighboursOf words m) (tagsOf words m) (m .t) (fieldOf f m u) → r ≡ foundBy plan words f (plan .start)
+  -- the start in a front
+  found-front : (u : ℕ) (g : Given) → u ≡ atX (plan .n) (plan .t) → foundIn f words m u g ≡ foundBy plan words f g
   unfolding verticesOf trianglesOf neighboursOf tagsOf fieldOf
-  found-picked r u eg eu e = rw eg (rw (em, eu) at e)
+  found-front u (Given.At p) eu = rw em
+  found-front u Given.Nothing eu = rw (em, eu)
 
-module _ (plan : Plan) (words : List ℕ) (f : List Float) (s : Stand) (found : Start) (s′ : Stand) where
-  set-out-is : found ≡ foundBy plan words f (plan .start) → setOut s (gradientsPut plan words f) (lostBy (plan .start)) found ≡ startBy plan words f s (plan .start)
-  set-out-is e = ap (setOut s (gradientsPut plan words f) (lostBy (plan .start))) e ∙ sym (start-is plan words f s (plan .start))
+  pub start-sets-out : (s : Stand) (u : ℕ) (found : Start) (d : Step) → u ≡ atX (plan .n) (plan .t) → found ≡ foundIn f words m u (plan .start) → SetsOut (setOut s [] (lostBy (plan .start)) found) d
+      → SetsOut (startBy plan words f s (plan .start)) d
+  start-sets-out s u found d eu ef o =
+      let k : ℕ = lostBy (plan .start) in
+      let same = set-out-same s [] (gradientsPut plan words f) k found in
+      let i : setOut s (gradientsPut plan words f) k found ≡ startBy plan words f s (plan .start) =
+      ap (setOut s (gradientsPut plan words f) k) (ef ∙ found-front u (plan .start) eu) ∙ sym (start-is plan words f s (plan .start)) in
+      record { stand = o .stand ∙ same .0 ∙ ap (λ (x : Stepped). x .stand) i; gives = o .gives ∙ same .1 ∙ ap (λ (x : Stepped). x .gives) i }
 
-  pub start-lost : (e : ℕ) (w : Walk) → found ≡ foundBy plan words f (plan .start) → found ≡ Start.Nothing → e ≡ lostBy (plan .start) → w ≡ ended nowhere e
-      → s′ ≡ walkedStand s w 0 → SetsOut (startBy plan words f s (plan .start)) (record { stand = s′; gives = Gives.Nothing })
+module _ (s : Stand) (given : Given) (found : Start) (s′ : Stand) where
+  pub start-lost : (e : ℕ) (w : Walk) → found ≡ Start.Nothing → e ≡ lostBy given → w ≡ ended nowhere e → s′ ≡ walkedStand s w 0
+      → SetsOut (setOut s [] (lostBy given) found) (record { stand = s′; gives = Gives.Nothing })
   unfolding setOut
-  start-lost e w ef en ee ew es =
-      let i : setOut s (gradientsPut plan words f) (lostBy (plan .start)) Start.Nothing ≡ startBy plan words f s (plan .start) = rw en at (set-out-is ef) in
-      rw (← i) (record { stand = es ∙ ap (λ (x : Walk). walkedStand s x 0) (ew ∙ ap (ended nowhere) ee); gives = refl })
+  start-lost e w en ee ew es = rw en (record { stand = es ∙ ap (λ (x : Walk). walkedStand s x 0) (ew ∙ ap (ended nowhere) ee); gives = refl })
 
-  pub start-found : (p : Point) (t e : ℕ) → found ≡ foundBy plan words f (plan .start) → found ≡ Start.At p t e
-      → s′ ≡ walkedStand s (record { position = p; triangle = t; edge = e; points = 1; end = 0 }) 0 → SetsOut (startBy plan words f s (plan .start)) (record { stand = s′; gives = Gives.First p })
+  pub start-found : (p : Point) (t e : ℕ) → found ≡ Start.At p t e → s′ ≡ walkedStand s (record { position = p; triangle = t; edge = e; points = 1; end = 0 }) 0
+      → SetsOut (setOut s [] (lostBy given) found) (record { stand = s′; gives = Gives.First p })
   unfolding setOut
-  start-found p t e ef ea es =
-      let i : setOut s (gradientsPut plan words f) (lostBy (plan .start)) (Start.At p t e) ≡ startBy plan words f s (plan .start) = rw ea at (set-out-is ef) in
-      rw (← i) (record { stand = es; gives = refl })
+  start-found p t e ea es = rw ea (record { stand = es; gives = refl })
 
 set-out-front : (s : Stand) (f : List Float) (k : ℕ) (st : Start) → setOut s f k st .front ≡ f
 unfolding setOut

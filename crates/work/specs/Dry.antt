@@ -1,5 +1,4 @@
--- Passes on a front alone: what the functions that make them ensure. Definitions only. Assumes nothing.
-use mathlib.Core.Path.{_≡_}
+-- Passes on a front alone, and what a count of them asks. Definitions only. Assumes nothing.
 use mathlib.Core.List.{List}
 use Prim.Native.Nat.{ℕ, _+_, _-_, _≤_, _<_}
 use lib.ListN.{length}
@@ -16,11 +15,6 @@ dryOf f s = record { front = f; stand = s }
 
 abbrev pub dryAt : Plan → List Float → Stand → Dry
 dryAt plan m s = dryOf (frontOf plan m) s
-
--- work on a front that comes to d
-pub record Dries (d : Dry) (r : Stand) (f′ : List Float) : Type 0 where
-  pub stand : r ≡ d .stand
-  pub front : f′ ≡ d .front
 
 -- how many places k passes gain
 abbrev pub gain : Plan → List ℕ → ℕ → List Float → Stand → ℕ

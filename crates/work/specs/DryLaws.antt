@@ -32,7 +32,7 @@ unfolding setOut
 set-out-front s f k (Start.At p t e) = refl
 set-out-front s f k Start.Nothing = refl
 
-start-front : (plan : Plan) (words : List ℕ) (f : List Float) (s : Stand) (g : Given) → startBy plan words f s g .front ≡ graded plan words f s
+pub start-front : (plan : Plan) (words : List ℕ) (f : List Float) (s : Stand) (g : Given) → startBy plan words f s g .front ≡ graded plan words f s
 start-front plan words f s (Given.At p) = set-out-front s (graded plan words f s) 8 _
 start-front plan words f s Given.Nothing = set-out-front s (graded plan words f s) 9 _
 
@@ -97,6 +97,12 @@ pub dry-forth : (plan : Plan) (words : List ℕ) (d : Dry) (k : ℕ) → d .stan
 unfolding dry
 dry-forth plan words d zero = omega arith
 dry-forth plan words d (suc k) = omega (arith, dry-forth plan words d k, step-forth plan words (dry plan words k d .front) (dry plan words k d .stand))
+
+-- passes after passes
+pub dry-add : (plan : Plan) (words : List ℕ) (d : Dry) (i j : ℕ) → dry plan words (i + j) d ≡ dry plan words j (dry plan words i d)
+unfolding dry
+dry-add plan words d i zero = rw add-zero
+dry-add plan words d i (suc j) = rw add-suc (ap (dryOnce plan words) (dry-add plan words d i j))
 
 -- a pass at a finished path changes nothing
 dry-once-over : (plan : Plan) (words : List ℕ) (d : Dry) → (d .stand .walk .end ≡ 0 → ⊥) → dryOnce plan words d ≡ d

@@ -5,10 +5,13 @@ use Prim.Native.Nat.{ℕ, _*_, _<_}
 use lib.ListN.{length}
 use lib.Ieee.{Float}
 use Rattle.stretch.specs.Stretch.{part, splice}
+use Rattle.mesh.specs.declared.Mesh.{Mesh}
 use Rattle.mesh.specs.Element.{flat}
+use Rattle.mesh.specs.Work.{verticesOf, trianglesOf, neighboursOf, tagsOf}
 use Rattle.gradient.specs.Gradient.{gradients}
 use Rattle.pde.specs.declared.Start.{Start}
 use Rattle.pde.specs.Start.{triangleContaining, pickStart}
+use Rattle.pde.specs.Work.{fieldOf}
 use Rattle.work.specs.declared.Given.{Given}
 use Rattle.work.specs.declared.Plan.{Plan}
 use Rattle.work.specs.declared.Stand.{Stand}
@@ -41,13 +44,18 @@ abbrev pub gradientsPut : Plan → List ℕ → List Float → List Float
 gradientsPut plan words f =
     splice f (atGradients (plan .n) (plan .t)) (gradients flat (part f 0 (2 * plan .n)) (part f (atX (plan .n) (plan .t)) (plan .n)) (part words 0 (3 * plan .t)))
 
--- the start that is found, and the end where none is
+-- the start that is found in a mesh with its field from u, and in a front
+abbrev pub foundIn : List Float → List ℕ → Mesh → ℕ → Given → Start
+foundIn floats words m u (Given.At p) = triangleContaining (verticesOf floats m) (trianglesOf words m) (m .t) p
+foundIn floats words m u Given.Nothing = pickStart (verticesOf floats m) (trianglesOf words m) (neighboursOf words m) (tagsOf words m) (m .t) (fieldOf floats m u)
+
 abbrev pub foundBy : Plan → List ℕ → List Float → Given → Start
 foundBy plan words f (Given.At p) = triangleContaining (part f 0 (2 * plan .n)) (part words 0 (3 * plan .t)) (plan .t) p
 foundBy plan words f Given.Nothing =
     pickStart (part f 0 (2 * plan .n)) (part words 0 (3 * plan .t)) (part words (atNeighbours (plan .t)) (3 * plan .t)) (part words (atTags (plan .t)) (plan .n)) (plan .t)
     (part f (atX (plan .n) (plan .t)) (plan .n))
 
+-- the end where none is
 abbrev pub lostBy : Given → ℕ
 lostBy (Given.At p) = 8
 lostBy Given.Nothing = 9

@@ -66,7 +66,7 @@ step-over plan words f s n =
 abbrev pub turnOf : Plan → List ℕ → List Float → Stand → Turn
 turnOf plan words f s = Solver.pass flat (matrix words f (matrixAt (plan .n) (plan .t))) (plan .tolerance) (vectorsIn (plan .n) (plan .t) f (s .rs))
 
-unsolved-norms : (plan : Plan) (s : Stand) → Standing plan s → s .end ≡ 0 → s .norms ≤ plan .limit
+pub unsolved-norms : (plan : Plan) (s : Stand) → Standing plan s → s .end ≡ 0 → s .norms ≤ plan .limit
 unsolved-norms plan s st e = let h : s .norms ≤ plan .limit + pick (eqb 0 0) 0 1 = rw e at (st .norms-most) in omega arith
 
 solved-standing : (plan : Plan) (s : Stand) (f : List Float) (turn : Turn) → Standing plan s → s .end ≡ 0 → Standing plan (solvedStep plan s f turn .stand)
@@ -93,7 +93,7 @@ solve-standing plan words f s st e = solved-standing plan s f (turnOf plan words
 
 -- ---- the start pass
 
-set-out-standing : (plan : Plan) (words : List ℕ) (s : Stand) (f : List Float) (k : ℕ) (st : Start) → Ready plan words → Standing plan s → StartIn (plan .t) st → Standing plan (setOut s f k st .stand)
+pub set-out-standing : (plan : Plan) (words : List ℕ) (s : Stand) (f : List Float) (k : ℕ) (st : Start) → Ready plan words → Standing plan s → StartIn (plan .t) st → Standing plan (setOut s f k st .stand)
 unfolding setOut
 set-out-standing plan words s f k (Start.At p t e) r h b = record {
   norms-least = h .norms-least;
@@ -128,7 +128,7 @@ module _ (plan : Plan) (s : Stand) (x : Crossing) where
   on-left true e h k = absurd (walked-last (plan .room) (s .walk) x k)
   on-left false e h k = let n : s .crossings + 1 ≡ factor * plan .t → ⊥ = eqb-false _ _ e in omega arith
 
-  on-standing : (b : Bool) → eqb (s .crossings + 1) (factor * plan .t) ≡ b → Standing plan s → s .walk .end ≡ 0 → (s .walk .points ≡ 0 → ⊥) → CrossingIn (plan .t) x
+  pub on-standing : (b : Bool) → eqb (s .crossings + 1) (factor * plan .t) ≡ b → Standing plan s → s .walk .end ≡ 0 → (s .walk .points ≡ 0 → ⊥) → CrossingIn (plan .t) x
       → Standing plan (walkedStand s (walked (plan .room) b (s .walk) x) (s .crossings + 1))
   on-standing b eb st e n c =
       let z : 0 < s .walk .points = omega arith in

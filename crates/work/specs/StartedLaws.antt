@@ -26,7 +26,7 @@ set-out-floats plan s s′ f k (Start.At p t e) m = refl
 set-out-floats plan s s′ f k Start.Nothing m = refl
 
 -- the front that a start pass leaves does not bear on its stand or on what it gives
-set-out-same : (s : Stand) (f f′ : List Float) (k : ℕ) (st : Start) → (setOut s f k st .stand ≡ setOut s f′ k st .stand) × (setOut s f k st .gives ≡ setOut s f′ k st .gives)
+pub set-out-same : (s : Stand) (f f′ : List Float) (k : ℕ) (st : Start) → (setOut s f k st .stand ≡ setOut s f′ k st .stand) × (setOut s f k st .gives ≡ setOut s f′ k st .gives)
 unfolding setOut
 set-out-same s f f′ k (Start.At p t e) = (refl, refl)
 set-out-same s f f′ k Start.Nothing = (refl, refl)

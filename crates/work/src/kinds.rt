@@ -8,21 +8,24 @@ use crate::Step;
 use crate::layout;
 use crate::place;
 use conjugate::Pass;
+use mesh::Mesh;
 use pde::Crossing;
 use pde::Rule;
 use pde::Start;
 use pde::Walk;
 use plane::Point;
 ghost use mathlib.Core.Path.{_≡_};
+ghost use mathlib.Core.List.{[]};
 ghost use Prim.Native.Nat.{_+_, _*_, _≤_, _<_};
 ghost use lib.Dec.{leb, eqb};
 ghost use Rattle.binary64.specs.Number.{pick};
 ghost use Rattle.work.specs.Memory as Memory;
 ghost use Rattle.work.specs.Ready.{Steps};
-ghost use Rattle.work.specs.Kinds.{Steppable, Searchable, Crossable, SetsOut, Leads, foundBy, lostBy, gradientsPut};
+ghost use Rattle.pde.specs.Work.{Fielded};
+ghost use Rattle.work.specs.Kinds.{Steppable, Searchable, Crossable, SetsOut, Leads, foundIn, lostBy, gradientsPut};
 
 // The stand after a pass of solving.
-fn solved_stand(s: Stand, rs: f64, norms: usize, end: usize) -> Stand
+pub fn solved_stand(s: Stand, rs: f64, norms: usize, end: usize) -> Stand
     requires { ⌜ s .place < 1000000 ⌝ }
     ensures { λ r. ⌜ r ≡ Memory.solvedStand s rs norms end ⌝ }
 {
@@ -38,7 +41,7 @@ fn solved_stand(s: Stand, rs: f64, norms: usize, end: usize) -> Stand
 }
 
 // The end of a pass with no other end: 3 where the limit is used up.
-fn limit_end(limit: usize, norms: usize) -> usize
+pub fn limit_end(limit: usize, norms: usize) -> usize
     ensures { λ r. ⌜ r ≡ pick (leb limit norms) 3 0 ⌝ }
 {
     if limit <= norms { 3 } else { 0 }
@@ -92,16 +95,13 @@ fn fill_gradients(front: &mut [f64], words: &[u32], plan: Plan)
 }
 
 // A given start lies in the first triangle that accepts it; otherwise a start is picked.
-fn find_start(front: &[f64], words: &[u32], plan: Plan) -> Start
-    requires { ⌜ Searchable plan (now words) (now front) ⌝ }
-    ensures { λ r. ⌜ r ≡ foundBy plan (now (words .entry)) (now (front .entry)) (plan .start) ⌝ }
+pub fn find_start(floats: &[f64], words: &[u32], m: Mesh, u: usize, given: Given) -> Start
+    requires { ⌜ Fielded (now floats) (now words) m u ⌝ }
+    ensures { λ r. ⌜ r ≡ foundIn (now (floats .entry)) (now (words .entry)) m u given ⌝ }
 {
-    let m = layout::mesh_at(plan.n, plan.t);
-    let u = layout::at_x(plan.n, plan.t);
-    let given = plan.start;
     match given {
-        Given::At(p) => tracing::begin::find_triangle_containing(front, words, m, p),
-        Given::Nothing => tracing::begin::pick_start(front, words, m, u),
+        Given::At(p) => tracing::begin::find_triangle_containing(floats, words, m, p),
+        Given::Nothing => tracing::begin::pick_start(floats, words, m, u),
     }
 }
 
@@ -131,14 +131,12 @@ fn walked_stand(s: Stand, walk: Walk, crossings: usize) -> Stand
     }
 }
 
-// The first point from where the field ended, or an end where no start is found.
-pub fn start_step(front: &[f64], words: &[u32], plan: Plan, stand: Stand) -> Step
-    requires { ⌜ Searchable plan (now words) (now front) × (stand .place < 1000000) ⌝ }
-    ensures { λ r. ⌜ SetsOut (Memory.startBy plan (now (words .entry)) (now (front .entry)) stand (plan .start)) r ⌝ }
+// The first point at the start that is found, or an end where none is; what is left of the front is not told.
+pub fn set_out(stand: Stand, given: Given, found: Start) -> Step
+    requires { ⌜ stand .place < 1000000 ⌝ }
+    ensures { λ r. ⌜ SetsOut (Memory.setOut stand [] (lostBy given) found) r ⌝ }
 {
-    let found = find_start(front, words, plan);
     let Start::At(p, t, e) = found else {
-        let given = plan.start;
         let s = walked_stand(stand, place::lost(lost_end(given)), 0);
         return Step {
             stand: s,
@@ -157,6 +155,18 @@ pub fn start_step(front: &[f64], words: &[u32], plan: Plan, stand: Stand) -> Ste
         stand: s,
         gives: Gives::First(p),
     }
+}
+
+// The first point from where the field ended, or an end where no start is found.
+pub fn start_step(front: &[f64], words: &[u32], plan: Plan, stand: Stand) -> Step
+    requires { ⌜ Searchable plan (now words) (now front) × (stand .place < 1000000) ⌝ }
+    ensures { λ r. ⌜ SetsOut (Memory.startBy plan (now (words .entry)) (now (front .entry)) stand (plan .start)) r ⌝ }
+{
+    let m = layout::mesh_at(plan.n, plan.t);
+    let u = layout::at_x(plan.n, plan.t);
+    let given = plan.start;
+    let found = find_start(front, words, m, u, given);
+    set_out(stand, given, found)
 }
 
 // The pass after solving: the gradients, and the first point or an end.

@@ -1,5 +1,4 @@
 // The work of a run in the three lent buffers: one pass, and passes in a row.
-pub mod dry;
 pub mod kinds;
 pub mod layout;
 pub mod pass;

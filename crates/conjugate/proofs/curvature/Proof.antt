@@ -11,10 +11,10 @@ use Rattle.conjugate.proofs.curvature.Statement.{statement}
 use Rattle.conjugate.proofs.curvature.Tie as tie
 
 abbrev Inv-loop : tie.InvT-loop
-Inv-loop vectors floats words m n sum₀ i₀ sum i = (i ≤ m .rows) × (sum ≡ dot (part vectors (2 * m .rows) i) (part (productOf words floats m vectors) 0 i))
+Inv-loop vectors floats words m n pap₀ i₀ pap i = (i ≤ m .rows) × (pap ≡ dot (part vectors (2 * m .rows) i) (part (productOf words floats m vectors) 0 i))
 
 abbrev μ-loop : tie.MeasureT-loop
-μ-loop vectors floats words m n sum₀ i₀ sum i = m .rows - i
+μ-loop vectors floats words m n pap₀ i₀ pap i = m .rows - i
 
 loop-holds : tie.Need-loop-holds Inv-loop μ-loop
 loop-holds c = let start = c .before .before .before in (omega arith, sum-none (start .args .words .now) (start .args .floats .now) (start .args .m) (start .args .vectors .now) (start .pre))
@@ -28,11 +28,11 @@ mul-k c = search needs
 add-k : tie.Need-add-k Inv-loop μ-loop
 add-k c = search needs
 
-mul-sum : tie.Need-mul-sum Inv-loop μ-loop
-mul-sum c = search needs
+mul-pap : tie.Need-mul-pap Inv-loop μ-loop
+mul-pap c = search needs
 
-shared-slice-read-sum : tie.Need-shared-slice-read-sum Inv-loop μ-loop
-shared-slice-read-sum c = search needs
+shared-slice-read-pap : tie.Need-shared-slice-read-pap Inv-loop μ-loop
+shared-slice-read-pap c = search needs
 
 add-i : tie.Need-add-i Inv-loop μ-loop
 add-i c = search needs
@@ -58,8 +58,8 @@ curvature-spec =
     product-at-requires
     mul-k
     add-k
-    mul-sum
-    shared-slice-read-sum
+    mul-pap
+    shared-slice-read-pap
     add-i
     loop-less
     loop-again

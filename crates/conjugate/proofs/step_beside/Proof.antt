@@ -10,10 +10,10 @@ use Rattle.conjugate.proofs.step_beside.Statement.{statement}
 use Rattle.conjugate.proofs.step_beside.Tie as tie
 
 abbrev Inv-loop : tie.InvT-loop
-Inv-loop vectors₀ floats words m alpha n sum₀ i₀ vectors sum i = (i ≤ m .rows) × (length vectors ≡ length vectors₀) × SteppedBeside vectors₀ vectors (productOf words floats m vectors₀) (m .rows) alpha i sum
+Inv-loop vectors₀ floats words m alpha n square₀ i₀ vectors square i = (i ≤ m .rows) × (length vectors ≡ length vectors₀) × SteppedBeside vectors₀ vectors (productOf words floats m vectors₀) (m .rows) alpha i square
 
 abbrev μ-loop : tie.MeasureT-loop
-μ-loop vectors₀ floats words m alpha n sum₀ i₀ vectors sum i = m .rows - i
+μ-loop vectors₀ floats words m alpha n square₀ i₀ vectors square i = m .rows - i
 
 loop-holds : tie.Need-loop-holds Inv-loop μ-loop
 loop-holds c = let start = c .before .before .before in (omega arith, refl, step-none _ (start .args .floats .now) _ (start .args .vectors .now) (start .pre) _)

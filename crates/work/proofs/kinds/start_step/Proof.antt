@@ -1,50 +1,26 @@
--- `start_step` meets its contract: with the start that is found, or with the end where none is, its stand is the definition's. Assumes nothing.
-use Rattle.work.proofs.LawsKinds.{start-lost, start-found}
+-- `start_step` meets its contract: the start that is found reads the parts of the front that the definition reads. Assumes nothing.
+use Rattle.work.proofs.LawsKinds.{front-fielded, start-sets-out}
 use borrow.Author.Needs.{needs}
 use Rattle.work.proofs.kinds.start_step.Statement.{statement}
 use Rattle.work.proofs.kinds.start_step.Tie as tie
 
+mesh-at-requires : tie.Need-mesh-at-requires
+mesh-at-requires c κs = search needs
+
+at-x-requires : tie.Need-at-x-requires
+at-x-requires c κs = search needs
+
 find-start-requires : tie.Need-find-start-requires
-find-start-requires c κs = search needs
+find-start-requires c κs = let start = c .before .before .before .before in front-fielded (start .args .plan) _ _ _ (c .before .mesh-at .ensures) (start .pre .0) _ (c .at-x .ensures)
 
-enum-known-found : tie.Need-enum-known-found
-enum-known-found c = search needs
-
-enum-told : tie.Need-enum-told
-enum-told c = search needs
-
-lost-end-requires : tie.Need-lost-end-requires
-lost-end-requires c κs = search needs
-
-lost-requires : tie.Need-lost-requires
-lost-requires c κs = search needs
-
-walked-stand-requires : tie.Need-walked-stand-requires
-walked-stand-requires c κs = search needs
+set-out-requires : tie.Need-set-out-requires
+set-out-requires c κs = search needs
 
 returns : tie.Need-returns
-returns c =
-    let a = c .before .before .before .before .before .before .before .before .args in
-    start-lost (a .plan) (a .words .now) (a .front .now) (a .stand) _ _ _ _ (c .before .before .before .before .before .find-start .ensures) (c .before .before .before .enum-told .given .1) (c .before .before .lost-end .ensures) (c .before .lost .ensures) (c .walked-stand .ensures)
-
-walked-stand-requires-2 : tie.Need-walked-stand-requires-2
-walked-stand-requires-2 c κs = search needs
-
-returns-2 : tie.Need-returns-2
-returns-2 c =
-    let a = c .before .before .before .before .before .before .before .args in
-    start-found (a .plan) (a .words .now) (a .front .now) (a .stand) _ _ _ _ _ (c .before .before .before .before .find-start .ensures) (c .before .before .found .given .1) (c .walked-stand2 .ensures)
+returns c = let start = c .before .before .before .before .before .before in
+    start-sets-out (start .args .plan) (start .args .words .now) (start .args .front .now) _ (c .before .before .before .mesh-at .ensures) _ _ _ _ (c .before .before .at-x .ensures) (c .before .find-start .ensures) (c .set-out .ensures)
 
 pub start-step-spec : {M : Type 1} → statement M
 start-step-spec =
     tie.close
-    (tie.spec
-    find-start-requires
-    enum-known-found
-    enum-told
-    lost-end-requires
-    lost-requires
-    walked-stand-requires
-    returns
-    walked-stand-requires-2
-    returns-2)
+    (tie.spec mesh-at-requires at-x-requires find-start-requires set-out-requires returns)

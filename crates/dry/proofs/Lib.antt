@@ -1,0 +1,3 @@
+pub mod LawsSolving
+pub mod LawsCrossing
+pub mod LawsPhases
