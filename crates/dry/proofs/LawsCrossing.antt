@@ -31,7 +31,7 @@ use Rattle.work.specs.declared.Given.{Given}
 use Rattle.work.specs.declared.Plan.{Plan}
 use Rattle.work.specs.declared.Stand.{Stand}
 use Rattle.work.specs.declared.Step.{Step}
-use Rattle.work.specs.Layout.{atX, atGradients, atNorms}
+use Rattle.work.specs.Layout.{atX, atGradients, atNorms, meshAt}
 use Rattle.work.specs.Memory.{Stepped, setOut, graded, startBy, beginStep, crossingOf, crossedStand, crossStep, nextOf, stepOn, Dry, dry}
 use Rattle.work.specs.Dry.{dryOf}
 use Rattle.work.specs.DryLaws.{start-front, dry-over}
@@ -54,10 +54,10 @@ module _ (plan : Plan) (words : List ℕ) (floats b : List Float) (m : Mesh) (u 
   pub gradient-worked : (stored : Bool) (k : ℕ) (g : Point) → stored ≡ false → g ≡ gradientIn flat b words m u k → g ≡ gradientBy stored plan words floats b m u k
   gradient-worked stored k g e h = rw e h
 
-  pub crossed-by : (stored : Bool) (s r : Stand) (g : Point) (x : Crossing) → g ≡ gradientBy stored plan words floats b m u (s .walk .triangle)
-      → x ≡ crossingIn b words m u rule (plan .step) g (s .walk .position) (s .walk .triangle) (s .walk .edge) → r ≡ crossedStand plan s x → r ≡ crossedBy stored plan words floats b m u s
-  crossed-by stored s r g x eg ex er =
-      er ∙ ap (crossedStand plan s) (ex ∙ ap (λ (h : Point). crossingIn b words m u rule (plan .step) h (s .walk .position) (s .walk .triangle) (s .walk .edge)) eg)
+  pub crossed-by : (stored : Bool) (s r : Stand) (g : Point) (x : Crossing) → m ≡ meshAt (plan .n) (plan .t) → g ≡ gradientBy stored plan words floats b m u (s .walk .triangle)
+      → x ≡ crossingIn b words (meshAt (plan .n) (plan .t)) u rule (plan .step) g (s .walk .position) (s .walk .triangle) (s .walk .edge) → r ≡ crossedStand plan s x → r ≡ crossedBy stored plan words floats b m u s
+  crossed-by stored s r g x em eg ex er =
+      er ∙ ap (crossedStand plan s) (ex ∙ ap (λ (y : Mesh). crossingIn b words y u rule (plan .step) g (s .walk .position) (s .walk .triangle) (s .walk .edge)) (sym em) ∙ ap (λ (h : Point). crossingIn b words m u rule (plan .step) h (s .walk .position) (s .walk .triangle) (s .walk .edge)) eg)
 
 pub started-by : (plan : Plan) (words : List ℕ) (b : List Float) (m : Mesh) (u : ℕ) (s : Stand) (found : Start) (d : Step) → found ≡ foundIn b words m u (plan .start)
     → SetsOut (setOut s [] (lostBy (plan .start)) found) d → d .stand ≡ startedBy plan words b m u s

@@ -16,7 +16,7 @@ use Rattle.pde.specs.Work.{Fielded, fieldOf, gradientsOf, crossingIn}
 use Rattle.model.specs.Run.{rule}
 use Rattle.work.specs.declared.Plan.{Plan}
 use Rattle.work.specs.declared.Stand.{Stand}
-use Rattle.work.specs.Layout.{atX, atGradients, atNorms, atNeighbours, atTags}
+use Rattle.work.specs.Layout.{atX, atGradients, atNorms, atNeighbours, atTags, meshAt}
 use Rattle.work.specs.Memory.{setOut, crossedStand, dry}
 use Rattle.work.specs.Dry.{dryOf}
 use Rattle.work.specs.Kinds.{foundIn, lostBy}
@@ -44,6 +44,7 @@ startedBy plan words b m u s = setOut s [] (lostBy (plan .start)) (foundIn b wor
 pub record Ground (plan : Plan) (words : List ℕ) (l : ℕ) (b : List Float) (m : Mesh) (u : ℕ) : Type 0 where
   pub ready : Ready plan words
   pub fielded : Fielded b words m u
+  pub mesh : m ≡ meshAt (plan .n) (plan .t)
   pub count : m .t ≡ plan .t
   pub floats-fit : atNorms (plan .n) (plan .t) ≤ l
 
@@ -74,14 +75,16 @@ pub record Crossed (stored : Bool) (plan : Plan) (words : List ℕ) (floats b : 
 
 -- ---- after solving
 
--- the mesh whose vertices stand behind x
-abbrev pub meshOn : Plan → Mesh
-meshOn plan = record { n = plan .n; t = plan .t; vertices = plan .n; triangles = 0; neighbours = atNeighbours (plan .t); tags = atTags (plan .t) }
+-- x is brought behind the vertices: v before, b after
+pub record Settled (n : ℕ) (floats v b : List Float) : Type 0 where
+  pub vertices : part b 0 (2 * n) ≡ part floats 0 (2 * n)
+  pub field : part b (2 * n) n ≡ part v 0 n
+  pub long : length b ≡ length v
 
--- x, and behind it the vertices of f, stand in b; its gradients stand in the floats
+-- the vertices of f, and behind them x, stand in b; its gradients stand in the floats
 pub record Scratched (plan : Plan) (floats b f : List Float) : Type 0 where
-  pub vertices : part f 0 (2 * plan .n) ≡ part b (plan .n) (2 * plan .n)
-  pub field : part f (atX (plan .n) (plan .t)) (plan .n) ≡ part b 0 (plan .n)
+  pub vertices : part f 0 (2 * plan .n) ≡ part b 0 (2 * plan .n)
+  pub field : part f (atX (plan .n) (plan .t)) (plan .n) ≡ part b (2 * plan .n) (plan .n)
   pub gradients : part f (atGradients (plan .n) (plan .t)) (2 * plan .t) ≡ part floats (atGradients (plan .n) (plan .t)) (2 * plan .t)
   pub long : length f ≡ atNorms (plan .n) (plan .t)
 
@@ -98,3 +101,9 @@ pub record Followable (plan : Plan) (words : List ℕ) (l : ℕ) (b : List Float
 -- k passes from s come to r on every front that the scratch and the floats show
 pub record Followed (plan : Plan) (words : List ℕ) (floats b : List Float) (s : Stand) (k : ℕ) (r : Stand) : Type 0 where
   pub is : (f : List Float) → Scratched plan floats b f → r ≡ dry plan words k (dryOf f s) .stand
+
+-- ---- before the start pass
+
+-- the stand with no crossing counted
+abbrev pub anew : Stand → Stand
+anew s = record { place = s .place; rs = s .rs; norms = s .norms; end = s .end; walk = s .walk; crossings = 0 }

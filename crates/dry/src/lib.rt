@@ -1,7 +1,6 @@
 // How many places an advance would gain, with nothing written to the lent buffers: the field is solved on copies of x, r and p, and the path is followed by x and the vertices.
 use conjugate::Pass;
 use mesh::Mesh;
-use pde::Rule;
 use plane::Point;
 use work::Plan;
 use work::Run;
@@ -15,9 +14,8 @@ ghost use Rattle.stretch.specs.Stretch.{part, splice};
 ghost use Rattle.work.specs.Layout.{atX, atNorms};
 ghost use Rattle.work.specs.Memory as Memory;
 ghost use Rattle.work.specs.Dry.{dryAt, gain, Counts};
-ghost use Rattle.work.specs.Ready.{Crosses};
 ghost use Rattle.dry.specs.Solving.{turnedStand, Solvable, Turns, Solved};
-ghost use Rattle.dry.specs.Crossing.{gradientBy, crossedBy, startedBy, Ground, Going, Crossed, Followable, Followed};
+ghost use Rattle.dry.specs.Crossing.{gradientBy, crossedBy, startedBy, Ground, Going, Crossed, Settled, Followable, Followed, anew};
 
 // The n numbers of `from` from src on, at the n places of `to` from `at` on.
 fn copy_in(to: &mut [f64], at: usize, from: &[f64], src: usize, n: usize)
@@ -131,23 +129,7 @@ fn cross_once(
     let walk = stand.walk;
     let from = walk.position;
     let g = gradient_of(base, floats, words, m, u, stored, plan, walk.triangle);
-    let rule = Rule {
-        dull: Run::DULL,
-        above: Run::ABOVE,
-        spacing: Run::SPACING,
-    };
-    let c = pde::cross::crossing(
-        base,
-        words,
-        m,
-        u,
-        rule,
-        plan.step,
-        g,
-        from,
-        walk.triangle,
-        walk.edge,
-    );
+    let c = kinds::crossing_by(base, words, plan, u, g, from, walk.triangle, walk.edge);
     kinds::crossed(plan, stand, c)
 }
 
@@ -191,7 +173,7 @@ fn start(base: &[f64], words: &[u32], m: Mesh, u: usize, plan: Plan, stand: Stan
     d.stand
 }
 
-// At most k passes from where the field has ended, up to the path's end: x stands first in the scratch, then the vertices.
+// At most k passes from where the field has ended, up to the path's end: the vertices stand first in the scratch, then x.
 fn follow(
     scratch: &[f64],
     floats: &[f64],
@@ -206,25 +188,35 @@ fn follow(
     let m = Mesh {
         n: plan.n,
         t: plan.t,
-        vertices: plan.n,
+        vertices: 0,
         triangles: 0,
         neighbours: 3 * plan.t,
         tags: 6 * plan.t,
     };
+    let u = 2 * plan.n;
     if stand.walk.points != 0 {
-        return cross(scratch, floats, words, m, 0, true, plan, stand, k);
+        return cross(scratch, floats, words, m, u, true, plan, stand, k);
     }
     if k == 0 {
         return stand;
     }
-    let s = start(scratch, words, m, 0, plan, stand);
+    let s = start(scratch, words, m, u, plan, stand);
     if s.walk.end != 0 {
         return s;
     }
-    cross(scratch, floats, words, m, 0, false, plan, s, k - 1)
+    cross(scratch, floats, words, m, u, false, plan, s, k - 1)
 }
 
 // ---- all phases
+
+// After solving r and p are no longer needed: the vertices stand first in the scratch, and x behind them.
+fn settle(scratch: &mut [f64], floats: &[f64], n: usize)
+    requires { ⌜ (3 * n ≤ length (now scratch)) × (2 * n ≤ length (now floats)) ⌝ }
+    ensures { λ _. ⌜ Settled n (now (floats .entry)) (now (scratch .entry)) (now (scratch .exit)) ⌝ }
+{
+    stretch::copy(scratch, 0, 2 * n, n);
+    copy_in(scratch, 0, floats, 0, 2 * n);
+}
 
 // At most k passes from where no crossing is next. Three vectors have at most 3 · 4,096 places.
 fn go(floats: &[f64], words: &[u32], plan: Plan, stand: Stand, k: usize) -> Stand
@@ -239,12 +231,27 @@ fn go(floats: &[f64], words: &[u32], plan: Plan, stand: Stand, k: usize) -> Stan
     if s.end == 0 {
         return s;
     }
-    copy_in(&mut scratch, n, floats, 0, 2 * n);
+    settle(&mut scratch, floats, n);
     let left = k - (s.place - stand.place);
     follow(&scratch, floats, words, plan, s, left)
 }
 
-// How many places at most k passes would gain; crossings alone need no copy.
+// A path with no point has made no crossing.
+fn uncrossed(s: Stand) -> Stand
+    ensures { λ r. ⌜ r ≡ anew s ⌝ }
+{
+    let walk = s.walk;
+    Stand {
+        place: s.place,
+        rs: s.rs,
+        norms: s.norms,
+        end: s.end,
+        walk,
+        crossings: 0,
+    }
+}
+
+// How many places at most k passes would gain; crossings alone need no copy. `go` is called from two places, by different stands: else it is built into its caller, and every call reserves its frame.
 pub fn dry_gain(floats: &[f64], words: &[u32], plan: Plan, stand: Stand, k: usize) -> usize
     requires { ⌜ Counts plan (now words) stand k (now floats) ⌝ }
     ensures { λ r. ⌜ r ≡ gain plan (now (words .entry)) k (now (floats .entry)) stand ⌝ }
@@ -253,12 +260,16 @@ pub fn dry_gain(floats: &[f64], words: &[u32], plan: Plan, stand: Stand, k: usiz
     if walk.end != 0 {
         return 0;
     }
-    if work::pass::crosses(stand) {
-        let m = layout::mesh_at(plan.n, plan.t);
-        let u = layout::at_x(plan.n, plan.t);
-        let last = cross(floats, floats, words, m, u, true, plan, stand, k);
+    if stand.end == 0 {
+        let last = go(floats, words, plan, stand, k);
         return last.place - stand.place;
     }
-    let last = go(floats, words, plan, stand, k);
+    if walk.points == 0 {
+        let last = go(floats, words, plan, uncrossed(stand), k);
+        return last.place - stand.place;
+    }
+    let m = layout::mesh_at(plan.n, plan.t);
+    let u = layout::at_x(plan.n, plan.t);
+    let last = cross(floats, floats, words, m, u, true, plan, stand, k);
     last.place - stand.place
 }

@@ -194,8 +194,12 @@ begin-leads plan words f s d f′ o e = record {
 
 -- ---- a crossing
 
+pub crossing-at : (plan : Plan) (words : List ℕ) (f : List Float) (u : ℕ) (g p : Point) (k e : ℕ) (m : Mesh) (r : Crossing) → m ≡ meshAt (plan .n) (plan .t)
+    → r ≡ crossingIn f words m u rule (plan .step) g p k e → r ≡ crossingIn f words (meshAt (plan .n) (plan .t)) u rule (plan .step) g p k e
+crossing-at plan words f u g p k e m r em is = is ∙ ap (λ (x : Mesh). crossingIn f words x u rule (plan .step) g p k e) em
+
 pub crossing-is : (plan : Plan) (words : List ℕ) (f : List Float) (p : Point) (k e : ℕ) (m : Mesh) (u at : ℕ) (g : Point) (r : Crossing) → m ≡ meshAt (plan .n) (plan .t) → u ≡ atX (plan .n) (plan .t)
-    → at ≡ atGradients (plan .n) (plan .t) → g ≡ gradientAt (gradientsOf f m at) k → r ≡ crossingIn f words m u rule (plan .step) g p k e → r ≡ crossingFrom plan words f p k e
+    → at ≡ atGradients (plan .n) (plan .t) → g ≡ gradientAt (gradientsOf f m at) k → r ≡ crossingIn f words (meshAt (plan .n) (plan .t)) u rule (plan .step) g p k e → r ≡ crossingFrom plan words f p k e
 unfolding verticesOf trianglesOf neighboursOf fieldOf gradientsOf crossing
 crossing-is plan words f p k e m u at g r em eu ea eg is = rw (eg, em, eu, ea) at is
 

@@ -11,12 +11,12 @@ use Rattle.mesh.specs.Work.{verticesOf, trianglesOf, neighboursOf, tagsOf}
 use Rattle.gradient.specs.Gradient.{gradients}
 use Rattle.pde.specs.declared.Start.{Start}
 use Rattle.pde.specs.Start.{triangleContaining, pickStart}
-use Rattle.pde.specs.Work.{fieldOf}
+use Rattle.pde.specs.Work.{Fielded, fieldOf}
 use Rattle.work.specs.declared.Given.{Given}
 use Rattle.work.specs.declared.Plan.{Plan}
 use Rattle.work.specs.declared.Stand.{Stand}
 use Rattle.work.specs.declared.Step.{Step}
-use Rattle.work.specs.Layout.{atX, atGradients, atNorms, atNeighbours, atTags}
+use Rattle.work.specs.Layout.{atX, atGradients, atNorms, atNeighbours, atTags, meshAt}
 use Rattle.work.specs.Memory.{Stepped}
 use Rattle.work.specs.Ready.{Ready, Standing}
 
@@ -25,7 +25,12 @@ pub record Searchable (plan : Plan) (words : List ℕ) (f : List Float) : Type 0
   pub ready : Ready plan words
   pub long : length f ≡ atNorms (plan .n) (plan .t)
 
--- and a place that is not far
+-- the vertices stand first in the floats, and the field from u on
+pub record Grounded (plan : Plan) (words : List ℕ) (f : List Float) (u : ℕ) : Type 0 where
+  pub ready : Ready plan words
+  pub fielded : Fielded f words (meshAt (plan .n) (plan .t)) u
+
+-- a front, and a place that is not far
 pub record Steppable (plan : Plan) (words : List ℕ) (f : List Float) (s : Stand) : Type 0 where
   pub ready : Ready plan words
   pub standing : Standing plan s

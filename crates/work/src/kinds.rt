@@ -21,8 +21,10 @@ ghost use lib.Dec.{leb, eqb};
 ghost use Rattle.binary64.specs.Number.{pick};
 ghost use Rattle.work.specs.Memory as Memory;
 ghost use Rattle.work.specs.Ready.{Steps};
-ghost use Rattle.pde.specs.Work.{Fielded};
-ghost use Rattle.work.specs.Kinds.{Steppable, Searchable, Crossable, SetsOut, Leads, foundIn, lostBy, gradientsPut};
+ghost use Rattle.pde.specs.Work.{Fielded, crossingIn};
+ghost use Rattle.model.specs.Run.{rule};
+ghost use Rattle.work.specs.Layout.{meshAt};
+ghost use Rattle.work.specs.Kinds.{Steppable, Searchable, Grounded, Crossable, SetsOut, Leads, foundIn, lostBy, gradientsPut};
 
 // The stand after a pass of solving.
 pub fn solved_stand(s: Stand, rs: f64, norms: usize, end: usize) -> Stand
@@ -181,6 +183,40 @@ fn begin_step(front: &mut [f64], words: &[u32], plan: Plan, stand: Stand) -> Ste
 
 // ---- a crossing
 
+// What crossing a triangle from a point, entered by an edge, comes to, by the triangle's gradient: the vertices stand first in the floats, and the field from u on.
+pub fn crossing_by(
+    floats: &[f64],
+    words: &[u32],
+    plan: Plan,
+    u: usize,
+    g: Point,
+    from: Point,
+    triangle: usize,
+    edge: usize,
+) -> Crossing
+    requires { ⌜ Grounded plan (now words) (now floats) u × (triangle < plan .t) ⌝ }
+    ensures { λ r. ⌜ r ≡ crossingIn (now (floats .entry)) (now (words .entry)) (meshAt (plan .n) (plan .t)) u rule (plan .step) g from triangle edge ⌝ }
+{
+    let m = layout::mesh_at(plan.n, plan.t);
+    let rule = Rule {
+        dull: Run::DULL,
+        above: Run::ABOVE,
+        spacing: Run::SPACING,
+    };
+    pde::cross::crossing(
+        floats,
+        words,
+        m,
+        u,
+        rule,
+        plan.step,
+        g,
+        from,
+        triangle,
+        edge,
+    )
+}
+
 // What crossing a triangle from a point, entered by an edge, comes to.
 pub fn crossing_of(
     front: &[f64],
@@ -196,13 +232,8 @@ pub fn crossing_of(
     let m = layout::mesh_at(plan.n, plan.t);
     let u = layout::at_x(plan.n, plan.t);
     let at = layout::at_gradients(plan.n, plan.t);
-    let rule = Rule {
-        dull: Run::DULL,
-        above: Run::ABOVE,
-        spacing: Run::SPACING,
-    };
     let g = pde::cross::gradient_at(front, m, at, triangle);
-    pde::cross::crossing(front, words, m, u, rule, plan.step, g, from, triangle, edge)
+    crossing_by(front, words, plan, u, g, from, triangle, edge)
 }
 
 // Which crossing is the last of all.

@@ -44,7 +44,7 @@ pub fn deliver(floats: &mut [f64], path: &mut [f64], plan: Plan, stand: Stand, g
 }
 
 // Whether a pass from a path that has no end is a crossing.
-pub fn crosses(stand: Stand) -> bool
+fn crosses(stand: Stand) -> bool
     requires { ⌜ stand .walk .end ≡ 0 ⌝ }
     ensures { λ r. ⌜ (r ≡ true → Crosses stand) ⌝ }
 {

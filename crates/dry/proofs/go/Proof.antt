@@ -30,14 +30,11 @@ returns c = let start = c .before .before .before .before .before .before .befor
     let e = c .before .before .before .solve .ensures in
     solved-all (start .args .plan) _ _ _ _ _ _ (start .pre .0) (e .0) (e .1) (e .2) (c .if1 .taken)
 
-slice-aggregate-copy-in-2 : tie.Need-slice-aggregate-copy-in-2
-slice-aggregate-copy-in-2 c = search needs
+slice-aggregate-settle : tie.Need-slice-aggregate-settle
+slice-aggregate-settle c = search needs
 
-mul-copy-in-2 : tie.Need-mul-copy-in-2
-mul-copy-in-2 c = search needs
-
-copy-in-requires-2 : tie.Need-copy-in-requires-2
-copy-in-requires-2 c κs = search needs
+settle-requires : tie.Need-settle-requires
+settle-requires c κs = search needs
 
 sub-left : tie.Need-sub-left
 sub-left c = search needs
@@ -51,12 +48,12 @@ slice-aggregate-follow c = search needs
 follow-requires : tie.Need-follow-requires
 follow-requires c κs = let start = c .before .before .before .before .before .before .before .before .before .before .before .before .before .before .before .before .before in
     let so = c .before .before .before .before .before .before .before .before .before .solve in
-    followable (start .args .plan) _ (start .args .floats .now) (start .args .stand) (start .args .k) (so .result) (so .last .0) (start .pre .0) (so .ensures .0) (so .ensures .1) (c .before .before .before .before .copy-in2 .last .0) (search needs) (c .before .before .before .before .copy-in2 .ensures) (c .before .before .before .before .before .before .if1 .left)
+    followable (start .args .plan) _ (start .args .floats .now) (start .args .stand) (start .args .k) (so .result) (so .last .0) (start .pre .0) (so .ensures .0) (so .ensures .1) (c .before .before .before .before .settle .last .0) (search needs) (c .before .before .before .before .settle .ensures) (c .before .before .before .before .before .before .if1 .left)
 
 returns-2 : tie.Need-returns-2
 returns-2 c = let start = c .before .before .before .before .before .before .before .before .before .before .before .before .before .before .before .before .before .before in
     let so = c .before .before .before .before .before .before .before .before .before .before .solve in
-    followed-all (start .args .plan) _ (start .args .floats .now) (start .args .stand) (start .args .k) (so .result) (so .last .0) (start .pre .0) (so .ensures .0) (so .ensures .1) (c .before .before .before .before .before .copy-in2 .last .0) (search needs) (c .before .before .before .before .before .copy-in2 .ensures) _ (c .follow .ensures)
+    followed-all (start .args .plan) _ (start .args .floats .now) (start .args .stand) (start .args .k) (so .result) (so .last .0) (start .pre .0) (so .ensures .0) (so .ensures .1) (c .before .before .before .before .before .settle .last .0) (search needs) (c .before .before .before .before .before .settle .ensures) _ (c .follow .ensures)
 
 pub go-spec : {M : Type 1} → statement M
 go-spec =
@@ -69,9 +66,8 @@ go-spec =
     slice-aggregate-solve
     solve-requires
     returns
-    slice-aggregate-copy-in-2
-    mul-copy-in-2
-    copy-in-requires-2
+    slice-aggregate-settle
+    settle-requires
     sub-left
     sub-left-2
     slice-aggregate-follow

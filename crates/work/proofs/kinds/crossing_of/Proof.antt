@@ -18,19 +18,19 @@ gradient-at-requires c κs =
     let s = c .before .before .before .before .before in
     (front-graded (s .args .plan) _ _ _ (c .before .before .mesh-at .ensures) (s .pre .0) _ (c .at-gradients .ensures), triangle-in-mesh _ (s .args .plan) _ (c .before .before .mesh-at .ensures) (s .pre .1))
 
-crossing-requires : tie.Need-crossing-requires
-crossing-requires c κs =
+crossing-by-requires : tie.Need-crossing-by-requires
+crossing-by-requires c κs =
     let s = c .before .before .before .before .before .before in
     let em = c .before .before .before .mesh-at .ensures in
-    (front-fielded (s .args .plan) _ _ _ em (s .pre .0) _ (c .before .before .at-x .ensures), triangle-in-mesh _ (s .args .plan) _ em (s .pre .1))
+    (record { ready = s .pre .0 .ready; fielded = rw em at (front-fielded (s .args .plan) _ _ _ em (s .pre .0) _ (c .before .before .at-x .ensures)) }, s .pre .1)
 
 returns : tie.Need-returns
 returns c =
     let s = c .before .before .before .before .before .before .before .args in
     crossing-is (s .plan) _ _ (s .from) (s .triangle) (s .edge) _ _ _ _ _ (c .before .before .before .before .mesh-at .ensures) (c .before .before .before .at-x .ensures) (c .before .before .at-gradients .ensures)
-    (c .before .gradient-at .ensures) (c .crossing .ensures)
+    (c .before .gradient-at .ensures) (c .crossing-by .ensures)
 
 pub crossing-of-spec : {M : Type 1} → statement M
 crossing-of-spec =
     tie.close
-    (tie.spec mesh-at-requires at-x-requires at-gradients-requires gradient-at-requires crossing-requires returns)
+    (tie.spec mesh-at-requires at-x-requires at-gradients-requires gradient-at-requires crossing-by-requires returns)
