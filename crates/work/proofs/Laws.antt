@@ -22,7 +22,7 @@ use Rattle.work.specs.declared.Step.{Step}
 use Rattle.work.specs.Layout.{atNorms}
 use Rattle.work.specs.Memory.{floatsGiven, pathGiven, once, goes, Work, work, frontOf, beyondFront}
 use Rattle.work.specs.DryLaws.{step-length}
-use Rattle.work.specs.StandingLaws.{once-standing, once-place, goes-over}
+use Rattle.work.specs.StandingLaws.{once-standing, once-place, goes-add, goes-over}
 use Rattle.work.specs.Ready.{Ready, Standing, Roomy, Writable, Steps, Comes}
 
 -- two stores in a row
@@ -110,6 +110,11 @@ module _ (plan : Plan) (words : List ℕ) where
 
   pub goes-done : (w : Work) (i k : ℕ) (s : Stand) (m p : List Float) → Comes (goes plan words i w) s m p → i ≡ k → Comes (goes plan words k w) s m p
   goes-done w i k s m p c e = comes-to (ap (λ (j : ℕ). goes plan words j w) e) c
+
+  -- passes in a row, and more of them
+  pub goes-on : (w : Work) (i j k : ℕ) (s s′ : Stand) (m p m′ p′ : List Float) → Comes (goes plan words i w) s m p → Comes (goes plan words j (work m p s)) s′ m′ p′ → i + j ≡ k
+      → Comes (goes plan words k w) s′ m′ p′
+  goes-on w i j k s s′ m p m′ p′ c d e = comes-to (ap (goes plan words j) (came c) ∙ sym (goes-add plan words w i j) ∙ ap (λ (n : ℕ). goes plan words n w) e) d
 
   -- the counts after a pass
   pub came-standing : (s s′ : Stand) (m p m′ p′ : List Float) → Comes (once plan words (work m p s)) s′ m′ p′ → Ready plan words → Standing plan s → Standing plan s′

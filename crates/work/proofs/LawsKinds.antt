@@ -34,8 +34,10 @@ use Rattle.pde.specs.declared.Walk.{Walk}
 use Rattle.pde.specs.declared.Crossing.{Crossing}
 use Rattle.pde.specs.Start.{triangleContaining, pickStart}
 use Rattle.pde.specs.Path.{ended, walked, added}
+use Rattle.pde.specs.PathLaws.{walked-more}
 use Rattle.pde.specs.Crossing.{gradientAt, crossing}
 use Rattle.pde.specs.Work.{Fielded, fieldOf, gradientsOf, crossingIn}
+use Rattle.model.specs.Space.{factor}
 use Rattle.model.specs.Run.{rule, nowhere}
 use Rattle.work.specs.declared.Given.{Given}
 use Rattle.work.specs.declared.Gives.{Gives}
@@ -43,7 +45,7 @@ use Rattle.work.specs.declared.Plan.{Plan}
 use Rattle.work.specs.declared.Stand.{Stand}
 use Rattle.work.specs.declared.Step.{Step}
 use Rattle.work.specs.Layout.{atX, atR, atP, atProduct, atGradients, atNorms, matrixAt, meshAt, vectorsAt}
-use Rattle.work.specs.Memory.{Stepped, vectorsIn, solvedStand, solvedStep, solveStep, setOut, walkedStand, crossedStand, startBy, beginStep, crossingFrom, crossingOf, crossStep, nextOf, stepOn, work, once}
+use Rattle.work.specs.Memory.{Stepped, vectorsIn, solvedStand, solvedStep, solveStep, setOut, walkedStand, crossedStand, startBy, beginStep, crossingFrom, crossingOf, crossStep, nextOf, stepOn, frontOf, work, once}
 use Rattle.work.specs.Ready.{Ready, Standing, Crosses, Steps, Comes}
 use Rattle.work.specs.Kinds.{SetsOut, Searchable, Leads, gradientsPut, foundIn, foundBy, lostBy}
 use Rattle.work.specs.StartedLaws.{set-out-same, start-is}
@@ -241,6 +243,15 @@ module _ (plan : Plan) (words : List ℕ) (f : List Float) (s : Stand) where
     steps-cross e z k l = leads-steps (crossStep plan words f s) (rw (eq-eqb (s .walk .end) 0 e, ne-eqb (s .end) 0 z, ne-eqb (s .walk .points) 0 k)) l
 
 -- ---- a crossing on the whole buffers
+
+-- behind a crossing the field has its end and the path has points
+pub crossed-walks : (plan : Plan) (words : List ℕ) (s s′ : Stand) (m p m′ p′ : List Float) → Crosses s → Comes (once plan words (work m p s)) s′ m′ p′ → (s′ .end ≡ 0 → ⊥) × (s′ .walk .points ≡ 0 → ⊥)
+unfolding once stepOn nextOf crossStep
+crossed-walks plan words s s′ m p m′ p′ x c =
+    let e : s′ ≡ crossedStand plan s (crossingOf plan words (frontOf plan m) s) =
+    c .stand ∙ rw (eq-eqb (s .walk .end) 0 (x .unended), ne-eqb (s .end) 0 (x .solved), ne-eqb (s .walk .points) 0 (x .some)) in
+    let k = walked-more (plan .room) (eqb (s .crossings + 1) (factor * plan .t)) (s .walk) (crossingOf plan words (frontOf plan m) s) in
+    rw e (x .solved, λ z. x .some (omega (arith, k, z)))
 
 pub cross-comes : (plan : Plan) (words : List ℕ) (s : Stand) (m p p′ : List Float) (c : Crossing) (s′ : Stand) (k : ℕ) → k ≡ atNorms (plan .n) (plan .t) → Crosses s
     → c ≡ crossingOf plan words (take k m) s → p′ ≡ splice p (2 * s .walk .points) (added (plan .room) (s .walk) c) → s′ ≡ crossedStand plan s c → Comes (once plan words (work m p s)) s′ m p′

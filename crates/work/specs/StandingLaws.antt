@@ -224,6 +224,11 @@ unfolding goes
 goes-further plan words w i zero n = rw add-zero
 goes-further plan words w i (suc j) n = rw add-suc (ap (once plan words) (goes-further plan words w i j n) ∙ once-over plan words (goes plan words i w) n)
 
+pub goes-add : (plan : Plan) (words : List ℕ) (w : Work) (i j : ℕ) → goes plan words (i + j) w ≡ goes plan words j (goes plan words i w)
+unfolding goes
+goes-add plan words w i zero = rw add-zero
+goes-add plan words w i (suc j) = rw add-suc (ap (once plan words) (goes-add plan words w i j))
+
 pub goes-over : (plan : Plan) (words : List ℕ) (w : Work) (i k : ℕ) → i ≤ k → (goes plan words i w .stand .walk .end ≡ 0 → ⊥) → goes plan words k w ≡ goes plan words i w
 goes-over plan words w i k h n =
     let e : i + (k - i) ≡ k = omega arith in

@@ -79,7 +79,33 @@ fn once(floats: &mut [f64], words: &[u32], path: &mut [f64], plan: Plan, stand: 
     d.stand
 }
 
-// At most k passes, up to the path's end.
+// At most k crossings, up to the path's end.
+fn cross_on(
+    floats: &[f64],
+    words: &[u32],
+    path: &mut [f64],
+    plan: Plan,
+    stand: Stand,
+    k: usize,
+) -> Stand
+    requires { ⌜ Ready plan (now words) × Standing plan stand × (stand .place + k < 1000000) × Roomy plan (now floats) (now path) × Crosses stand ⌝ }
+    ensures { λ r. ⌜ Comes (Memory.goes plan (now (words .entry)) k (work (now (floats .entry)) (now (path .entry)) stand)) r (now (floats .entry)) (now (path .exit)) ⌝ }
+{
+    let mut s = stand;
+    let mut i = 0;
+    while i < k {
+        let walk = s.walk;
+        if walk.end != 0 {
+            return s;
+        }
+        let crossed = cross(floats, words, path, plan, s);
+        s = crossed;
+        i += 1;
+    }
+    s
+}
+
+// At most k passes, up to the path's end: behind a crossing there are only crossings.
 pub fn go(
     floats: &mut [f64],
     words: &[u32],
@@ -98,11 +124,10 @@ pub fn go(
         if walk.end != 0 {
             return s;
         }
-        let next = if crosses(s) {
-            cross(floats, words, path, plan, s)
-        } else {
-            once(floats, words, path, plan, s)
-        };
+        if crosses(s) {
+            return cross_on(floats, words, path, plan, s, k - i);
+        }
+        let next = once(floats, words, path, plan, s);
         s = next;
         i += 1;
     }
