@@ -112,6 +112,8 @@ impl Opened {
         let path = filled_up(numbers(at.points), 2 * run.room);
         same_floats("path", &path, &self.buffers.path[..path.len()])?;
         same_floats("points handed back", &numbers(at.points), &rattle::points(&self.record, &self.buffers.path))?;
+        let counts = [at.x.len(), at.norms.len(), 2 * at.gradients.len()];
+        same_lists("how many numbers are handed out", &counts, &rattle::parts(&self.record, &self.buffers.floats))?;
         same_buffers(&self.past, &behind(&self.buffers, self.needs))
     }
 

@@ -41,6 +41,30 @@ mod exported {
             reals: *const f64,
             reals_len: usize,
         ) -> usize;
+        pub fn cintrok_field(
+            floats: *const f64,
+            floats_len: usize,
+            wholes: *const u64,
+            wholes_len: usize,
+            reals: *const f64,
+            reals_len: usize,
+        ) -> usize;
+        pub fn cintrok_norms(
+            floats: *const f64,
+            floats_len: usize,
+            wholes: *const u64,
+            wholes_len: usize,
+            reals: *const f64,
+            reals_len: usize,
+        ) -> usize;
+        pub fn cintrok_gradients(
+            floats: *const f64,
+            floats_len: usize,
+            wholes: *const u64,
+            wholes_len: usize,
+            reals: *const f64,
+            reals_len: usize,
+        ) -> usize;
         pub fn cintrok_length(path: *const f64, path_len: usize) -> f64;
         pub fn cintrok_layout(n: usize, t: usize, out: *mut u64, out_len: usize) -> u32;
     }
@@ -141,6 +165,15 @@ pub fn points(record: &Record, path: &[f64]) -> Vec<f64> {
     let reals = record.reals.map(f64::from_bits);
     let count = unsafe { exported::cintrok_points(path.as_ptr(), path.len(), record.wholes.as_ptr(), WHOLES, reals.as_ptr(), REALS) };
     path[..count].to_vec()
+}
+
+type Part = unsafe extern "C" fn(*const f64, usize, *const u64, usize, *const f64, usize) -> usize;
+
+/// How many numbers of the floats are the field's, norms and gradients'.
+pub fn parts(record: &Record, floats: &[f64]) -> [usize; 3] {
+    let reals = record.reals.map(f64::from_bits);
+    let all: [Part; 3] = [exported::cintrok_field, exported::cintrok_norms, exported::cintrok_gradients];
+    all.map(|part| unsafe { part(floats.as_ptr(), floats.len(), record.wholes.as_ptr(), WHOLES, reals.as_ptr(), REALS) })
 }
 
 pub fn length(path: &[f64]) -> f64 {

@@ -16,6 +16,7 @@ ghost use lib.ListN.{getD, length};
 ghost use Rattle.binary64.specs.Constants.{plusZero};
 ghost use Rattle.pde.specs.Path.{lengthOf};
 ghost use Rattle.image.specs.Calls.{buffers, fault, runAfter, buffersAfter};
+ghost use Rattle.image.specs.Parts.{fieldOf, normsOf, gradientsOf};
 ghost use Rattle.image.specs.Points.{pointsOf};
 ghost use Rattle.image.specs.Replay.{callOf, opened};
 ghost use Rattle.exports.specs.Answers as Answers;
@@ -254,6 +255,36 @@ pub extern "C" fn cintrok_points(path: &[f64], wholes: &[u64], reals: &[f64]) ->
     let r = run_from(wholes, reals);
     let points = run::points(r, path);
     points.len()
+}
+
+// How many numbers of the floats are the field, one for each vertex.
+#[no_mangle]
+pub extern "C" fn cintrok_field(floats: &[f64], wholes: &[u64], reals: &[f64]) -> usize
+    ensures { λ r. ⌜ r ≡ length (fieldOf (Answers.runFrom (now (wholes .entry)) (now (reals .entry))) (now (floats .entry))) ⌝ }
+{
+    let r = run_from(wholes, reals);
+    let part = run::field(r, floats);
+    part.len()
+}
+
+// How many numbers of the floats are norms.
+#[no_mangle]
+pub extern "C" fn cintrok_norms(floats: &[f64], wholes: &[u64], reals: &[f64]) -> usize
+    ensures { λ r. ⌜ r ≡ length (normsOf (Answers.runFrom (now (wholes .entry)) (now (reals .entry))) (now (floats .entry))) ⌝ }
+{
+    let r = run_from(wholes, reals);
+    let part = run::norms(r, floats);
+    part.len()
+}
+
+// How many numbers of the floats are gradients, x and y of each.
+#[no_mangle]
+pub extern "C" fn cintrok_gradients(floats: &[f64], wholes: &[u64], reals: &[f64]) -> usize
+    ensures { λ r. ⌜ r ≡ length (gradientsOf (Answers.runFrom (now (wholes .entry)) (now (reals .entry))) (now (floats .entry))) ⌝ }
+{
+    let r = run_from(wholes, reals);
+    let part = run::gradients(r, floats);
+    part.len()
 }
 
 #[no_mangle]

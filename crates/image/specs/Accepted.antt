@@ -83,7 +83,13 @@ PlaceIn p k = k ≤ farthest (p .t) (p .limit)
 
 abbrev pub MarkIn : Plan → Mark → Type 0
 MarkIn p Mark.Nothing = Unit
-MarkIn p (Mark.At k) = PlaceIn p (k .place)
+MarkIn p (Mark.At k) = PlaceIn p (k .place) × (1 ≤ k .norms) × (k .norms ≤ p .limit + 1)
+
+-- both ends and the crossings of a place
+pub record EndsIn (p : Plan) (s : Stand) : Type 0 where
+  pub field-end : s .end ≤ 3
+  pub path-end : s .walk .end ≤ 9
+  pub crossings-most : s .crossings ≤ factor * p .t
 
 -- also of a record without points
 abbrev pub TriangleIn : Plan → ℕ → Type 0
@@ -125,7 +131,7 @@ module _ (p : Plan) (s : Stand) where
   one-left : left ≡ true → s .walk .end ≡ 0 → s .crossings < factor * p .t
   one-left e z = ltb-true (s .crossings) (factor * p .t) (rw (eq-eqb (s .walk .end) 0 z) at e)
 
-  pub standing : standSound p s ≡ true → PlaceIn p (s .place) × Standing p s × TriangleIn p (s .walk .triangle)
+  pub standing : standSound p s ≡ true → PlaceIn p (s .place) × Standing p s × TriangleIn p (s .walk .triangle) × EndsIn p s
   unfolding standSound
   standing h =
       let a = and-true (leb (s .place) (farthest (p .t) (p .limit))) (leb 1 (s .norms) && (norms && ends)) h in
@@ -147,6 +153,11 @@ module _ (p : Plan) (s : Stand) where
           crossings-left = λ z k. one-left (and-true (ltb (s .walk .triangle) (p .t)) left (on-path (i .1) k) .1) z;
         },
         named-in p (s .walk .triangle) (n .0),
+        record {
+          field-end = leb-true (s .end) 3 (d .0);
+          path-end = leb-true (s .walk .end) 9 (e .0);
+          crossings-most = leb-true (s .crossings) (factor * p .t) (i .0);
+        },
       )
 
 pub keeping : (p : Plan) (m : Mark) → markSound p m ≡ true → MarkIn p m × MarkKeeping p m
@@ -155,7 +166,8 @@ keeping p Mark.Nothing h = (tt, tt)
 keeping p (Mark.At k) h =
     let a = and-true (leb (k .place) (farthest (p .t) (p .limit))) (leb 1 (k .norms) && leb (k .norms) (p .limit + 1)) h in
     let b = and-true (leb 1 (k .norms)) (leb (k .norms) (p .limit + 1)) (a .1) in
-    (leb-true (k .place) (farthest (p .t) (p .limit)) (a .0), record { least = leb-true 1 (k .norms) (b .0) })
+    let least = leb-true 1 (k .norms) (b .0) in
+    ((leb-true (k .place) (farthest (p .t) (p .limit)) (a .0), least, leb-true (k .norms) (p .limit + 1) (b .1)), record { least = least })
 
 -- ---- the indices in the words
 
@@ -227,6 +239,7 @@ pub record Accepted (r : Run) (b : Buffers) : Type 0 where
   pub standing : Standing (r .plan) (r .stand)
   pub place-in : PlaceIn (r .plan) (r .stand .place)
   pub triangle-in : TriangleIn (r .plan) (r .stand .walk .triangle)
+  pub ends-in : EndsIn (r .plan) (r .stand)
   pub roomy : Roomy (r .plan) (b .floats) (b .path)
   pub keeping : MarkKeeping (r .plan) (r .mark)
   pub mark-in : MarkIn (r .plan) (r .mark)
@@ -250,6 +263,7 @@ accepted r b h =
       standing = here .1;
       place-in = here .0;
       triangle-in = here .2;
+      ends-in = here .3;
       roomy = record { floats-fit = space .floats; path-fit = space .path };
       keeping = kept .1;
       mark-in = kept .0;

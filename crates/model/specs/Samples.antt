@@ -4,8 +4,9 @@ use Prim.Native.Nat.{ℕ, _-_}
 use mathlib.Core.Path.{_≡_, refl}
 use mathlib.Core.List.{List, [], _∷_}
 use mathlib.Core.Option.{none, some}
-use lib.Ieee.{Float, nan, binary64, ofBits}
+use lib.Ieee.{Float, nan, binary64, ofBits, toBits}
 use Rattle.plane.specs.Plane.{point}
+use Rattle.pde.specs.Path.{lengthFrom, lengthOf}
 use Rattle.format.specs.declared.Whole.{Whole}
 use Rattle.format.specs.declared.Real.{Real}
 use Rattle.format.specs.declared.Settings.{Settings}
@@ -125,6 +126,11 @@ traced place fieldEnd = record {
 pub s1-shown : shown s1 ≡ traced 3 1
 unfolding shown
 s1-shown = refl
+
+-- the length of its path: 0.8, left to right from +0
+pub s1-length : toBits binary64 (lengthOf (at s1 (lastPlace s1) .trail .path)) ≡ 0x3fe9_9999_9999_999a
+unfolding shown lengthOf lengthFrom
+s1-length = refl
 
 -- its sheet is accepted and says what it was made of
 pub s1-read : sheetRead s1 ≡ accepted s1

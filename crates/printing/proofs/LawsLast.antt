@@ -4,8 +4,8 @@ use mathlib.Core.Path.{_≡_, refl, sym, ap, _∙_}
 use mathlib.Core.Bool.{Bool, true, false}
 use mathlib.Core.List.{List, [], _∷_, append-nil}
 use native.Mathlib.Omega.{arith}
-use borrow.Author.Tests.{le-ltb, eqb-true}
-use lib.Dec.{ltb, eqb}
+use borrow.Author.Tests.{le-ltb}
+use lib.Dec.{eqb}
 use lib.ListN.{length, getD}
 use lib.Seq.{take-all, drop-length}
 use Rattle.binary64.specs.Number.{pick}
@@ -16,7 +16,7 @@ use Rattle.format.specs.Sheet.{Parsed, accepted, refused, parse}
 use Rattle.format.specs.Theorems.{parse-sound}
 use Rattle.model.specs.Run.{at, lastPlace}
 use Rattle.model.specs.RunLaws.{last-bound}
-use Rattle.model.specs.Machine.{Space, Counter, fresh, most, needs, short, ahead, refused as machineRefused, tick, Lent, Ticked, ticks}
+use Rattle.model.specs.Machine.{Space, fresh, most, needs, short, ahead, refused as machineRefused, tick, Lent, Ticked, ticks}
 use Rattle.work.specs.declared.Run.{Run}
 use Rattle.image.specs.declared.Opened.{Opened}
 use Rattle.image.specs.Calls.{Buffers, fault, runAfter, buffersAfter}

@@ -1,13 +1,13 @@
 -- Laws of the text of what a run shows, of any record and buffers: the room that it needs, and its ways out. Assumes nothing.
 use Prim.Native.Nat.{ℕ, _+_, _*_, _≤_, _<_}
-use mathlib.Core.Path.{_≡_, refl, sym, ap, _∙_}
+use mathlib.Core.Path.{_≡_, refl}
 use mathlib.Core.Bool.{Bool, true, false}
 use mathlib.Core.List.{List, []}
 use native.Mathlib.Omega.{arith}
 use borrow.Author.Tests.{leb-true, lt-ltb, ne-eqb}
 use lib.Dec.{leb}
 use lib.ListN.{length, take, drop, length-drop}
-use lib.Seq.{length-take-le}
+use lib.Seq.{take-all, length-take-le}
 use lib.Ieee.{Float}
 use Rattle.binary64.specs.Number.{pick}
 use Rattle.stretch.specs.Stretch.{part}
@@ -95,3 +95,7 @@ last-shown r r′ b b′ k e z p q = rw (← e, z, p, q)
 pub long-prints : {out out′ : List ℕ} {r : ℕ} (sheet : List ℕ) (b : Buffers) → mostBytes < length sheet → Printed out 0 (refusedText 8) r out′ → Prints sheet b out r b out′
 unfolding printed printedBuffers
 long-prints sheet b h p = record { text = printed-as (printed sheet) p (rw (lt-ltb mostBytes (length sheet) h)); held = rw (lt-ltb mostBytes (length sheet) h) }
+
+-- no more bytes than there are
+pub prints-all : {b b′ : Buffers} {out out′ : List ℕ} {r : ℕ} (sheet : List ℕ) (got : ℕ) → length sheet < got → Prints sheet b out r b′ out′ → Prints (take got sheet) b out r b′ out′
+prints-all sheet got h p = rw (take-all got sheet (omega arith)) p

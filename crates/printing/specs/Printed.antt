@@ -1,10 +1,10 @@
 -- What the program `spiral` prints of a sheet's bytes (document 01, Length, writer, program), as bytes, and what the lent buffers hold afterwards. Definitions only. Assumes nothing.
-use Prim.Native.Nat.{ℕ}
+use Prim.Native.Nat.{ℕ, _+_}
 use mathlib.Core.Path.{_≡_}
 use mathlib.Core.List.{List}
 use mathlib.Core.Option.{none}
 use lib.Dec.{ltb, eqb}
-use lib.ListN.{length}
+use lib.ListN.{length, take}
 use Rattle.binary64.specs.Number.{pick}
 use Rattle.format.specs.Content.{Content}
 use Rattle.format.specs.Sheet.{Parsed, accepted, refused, parse}
@@ -64,3 +64,8 @@ printedBuffers sheet b = pick (ltb mostBytes (length sheet)) b (parsedBuffers (p
 pub record Prints (sheet : List ℕ) (b : Buffers) (out : List ℕ) (r : ℕ) (b′ : Buffers) (out′ : List ℕ) : Type 0 where
   pub text : Printed out 0 (printed sheet) r out′
   pub held : b′ ≡ printedBuffers sheet b
+
+-- what `print_read` ensures: the space has one byte more than a sheet may have, so that too many are seen, and what was read into it is printed
+pub record PrintsRead (space : List ℕ) (got : ℕ) (b : Buffers) (out : List ℕ) (r : ℕ) (b′ : Buffers) (out′ : List ℕ) : Type 0 where
+  pub one-more : length space ≡ mostBytes + 1
+  pub prints : Prints (take got space) b out r b′ out′

@@ -1,9 +1,7 @@
 // What `spiral` prints of a sheet (document 01, Length, writer, program): the text of its run at the last place, or of the refusal.
 use run::Opened;
 use work::Run;
-ghost use mathlib.Core.Path.{_≡_};
-ghost use Prim.Native.Nat.{_≤_};
-ghost use lib.ListN.{length};
+ghost use lib.ListN.{take};
 ghost use Rattle.image.specs.Calls.{buffers};
 ghost use Rattle.text.specs.Put.{Printed};
 ghost use Rattle.printing.specs.Printed as Text;
@@ -11,6 +9,9 @@ ghost use Rattle.printing.specs.Steps as Steps;
 
 // The most bytes of a sheet, and the places of the buffers: floats, whole numbers, x and y of each point.
 pub const SHEET: usize = 65536;
+
+// One byte more is read, to find out whether there are too many.
+pub const READ: usize = 65537;
 
 pub const FLOATS: usize = 8192;
 
@@ -82,4 +83,35 @@ pub fn print_sheet(
         Opened::Refused(k) => text::put_refused(out, 0, k as u64),
         Opened::Open(r) => put_last(out, r, floats, words, path),
     }
+}
+
+// The same of the first `got` bytes, or of all where `got` is more.
+fn print_first(
+    space: &[u8],
+    got: usize,
+    floats: &mut [f64; FLOATS],
+    words: &mut [u32; WORDS],
+    path: &mut [f64; PATH],
+    out: &mut [u8; TEXT],
+) -> usize
+    ensures { λ r. ⌜ Text.Prints (take got (now (space .entry))) (buffers (now (floats .entry)) (now (words .entry)) (now (path .entry))) (now (out .entry)) r (buffers (now (floats .exit)) (now (words .exit)) (now (path .exit))) (now (out .exit)) ⌝ }
+{
+    if space.len() < got {
+        return print_sheet(space, floats, words, path, out);
+    }
+    print_sheet(&space[..got], floats, words, path, out)
+}
+
+// The same of what was read, into a space for one byte more than a sheet may have.
+pub fn print_read(
+    space: &[u8; READ],
+    got: usize,
+    floats: &mut [f64; FLOATS],
+    words: &mut [u32; WORDS],
+    path: &mut [f64; PATH],
+    out: &mut [u8; TEXT],
+) -> usize
+    ensures { λ r. ⌜ Text.PrintsRead (now (space .entry)) got (buffers (now (floats .entry)) (now (words .entry)) (now (path .entry))) (now (out .entry)) r (buffers (now (floats .exit)) (now (words .exit)) (now (path .exit))) (now (out .exit)) ⌝ }
+{
+    print_first(space, got, floats, words, path, out)
 }

@@ -48,7 +48,7 @@ seek-requires c κs =
     let a = c .before .before .before .before .before .before .before .before .before .before .before .before .args in
     let b = buffers (a .floats .now) (a .words .now) (a .path .now) in
     let i = admitted (a .run) b (c .before .before .before .before .before .before .held-fault .ensures) (c .before .before .before .before .before .if1 .left) in
-    (i, rw (c .before .before .before .kept .given .1) at (i .mark-in))
+    (i, (rw (c .before .before .before .kept .given .1) at (i .mark-in)) .0)
 
 moved-requires : tie.Need-moved-requires
 moved-requires c κs = search needs
