@@ -185,12 +185,10 @@ fn alter(rng: &mut Rng, opened: &mut Opened) {
     }
 }
 
-/// A presence is 0 or 1, and an end fits in 32 bits: what the record itself can hold.
+/// A presence is 0 or 1: what the record itself can hold.
 fn keep_flags(record: &mut Record) {
     record.wholes[rattle::GIVEN] %= 2;
     record.wholes[rattle::MARKED] %= 2;
-    record.wholes[rattle::FIELD_END] &= 0xffff_ffff;
-    record.wholes[rattle::PATH_END] &= 0xffff_ffff;
 }
 
 /// What a call on any record owes: 10 for n, T, limit or room, then 8; no change where it refuses; what is lent past the space stays.

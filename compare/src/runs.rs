@@ -207,6 +207,7 @@ pub fn write(folder: &str, seed: u64) {
         number(case.calls.len());
         for (call, lent) in &case.calls {
             call.numbers().iter().for_each(|k| number(*k as usize));
+            number(0);
             lent.iter().for_each(|k| number(*k));
         }
         writeln!(output, "{}", line(case)).unwrap();

@@ -12,8 +12,8 @@ ghost use Rattle.model.specs.Machine as Machine;
 ghost use Rattle.work.specs.Dry.{Counts, gain};
 ghost use Rattle.work.specs.Ready.{Comes};
 ghost use Rattle.image.specs.Accepted.{Accepted};
-ghost use Rattle.image.specs.Calls.{buffers, soughtAt, Does};
-ghost use Rattle.image.specs.Exits.{answered, movedRun, overFault};
+ghost use Rattle.image.specs.Calls.{buffers, answered, soughtAt, Does};
+ghost use Rattle.image.specs.Exits.{movedRun, overFault};
 
 // 2^64 − 1, the most passes that are counted.
 const MOST: u64 = 18446744073709551615;

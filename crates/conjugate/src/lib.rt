@@ -18,7 +18,7 @@ pub struct Vectors {
     pub product: usize,
 }
 
-// What a pass comes to: p·Ap below 1e-30; a norm below the tolerance; or the next sum of squares with its norm.
+// What a pass comes to: p·Ap that counts as zero; a norm below the tolerance; or the next sum of squares with its norm.
 pub enum Pass {
     Halted,
     Reached(f64),

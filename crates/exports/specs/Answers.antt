@@ -3,7 +3,9 @@ use Prim.Native.Nat.{ℕ, zero, suc}
 use mathlib.Core.List.{List}
 use lib.ListN.{getD, set}
 use lib.Ieee.{Float}
+use lib.Dec.{eqb}
 use Rattle.binary64.specs.Constants.{plusZero}
+use Rattle.binary64.specs.Number.{pick}
 use Rattle.plane.specs.Plane.{point}
 use Rattle.pde.specs.declared.Walk.{Walk}
 use Rattle.sheet.specs.declared.Checked.{Checked}
@@ -12,15 +14,11 @@ use Rattle.work.specs.declared.Plan.{Plan}
 use Rattle.work.specs.declared.Stand.{Stand}
 use Rattle.work.specs.declared.Mark.{Mark}
 use Rattle.work.specs.declared.Run.{Run}
-use Rattle.image.specs.declared.Opened.{Opened}
+use Rattle.image.specs.declared.Answer.{Answer}
 
 abbrev pub checkedNumber : Checked → ℕ
 checkedNumber (Checked.Refused k) = k
 checkedNumber (Checked.Accepted h) = 0
-
-abbrev pub openedNumber : Opened → ℕ
-openedNumber (Opened.Refused k) = k
-openedNumber (Opened.Open r) = 0
 
 -- ---- a record from its numbers; what has no place reads as 0
 
@@ -99,10 +97,8 @@ unfoldable pub realsRun : Run → List Float → List Float
 realsRun r xs = realsMark (r .mark) (realsStand (r .stand) (realsPlan (r .plan) xs))
 
 -- an opened run's numbers; a refusal puts none
-abbrev pub wholesOpened : Opened → List ℕ → List ℕ
-wholesOpened (Opened.Refused k) ns = ns
-wholesOpened (Opened.Open r) ns = wholesRun r ns
+abbrev pub wholesOpened : Answer → List ℕ → List ℕ
+wholesOpened a ns = pick (eqb (a .refused) 0) (wholesRun (a .run) ns) ns
 
-abbrev pub realsOpened : Opened → List Float → List Float
-realsOpened (Opened.Refused k) xs = xs
-realsOpened (Opened.Open r) xs = realsRun r xs
+abbrev pub realsOpened : Answer → List Float → List Float
+realsOpened a xs = pick (eqb (a .refused) 0) (realsRun (a .run) xs) xs

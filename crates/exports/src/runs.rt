@@ -4,7 +4,6 @@ use crate::sheets::put;
 use crate::sheets::put_float;
 use pde::Walk;
 use plane::Point;
-use run::Opened;
 use work::Given;
 use work::Kept;
 use work::Mark;
@@ -215,16 +214,15 @@ pub extern "C" fn cintrok_open(
     wholes: &mut [u64],
     reals: &mut [f64],
 ) -> u32
-    ensures { λ r. ⌜ (r ≡ Answers.openedNumber (opened (now (sheet .entry)) (buffers (now (floats .entry)) (now (words .entry)) (now (path .entry))) .answer)) × (buffers (now (floats .exit)) (now (words .exit)) (now (path .exit)) ≡ opened (now (sheet .entry)) (buffers (now (floats .entry)) (now (words .entry)) (now (path .entry))) .all) × (now (wholes .exit) ≡ Answers.wholesOpened (opened (now (sheet .entry)) (buffers (now (floats .entry)) (now (words .entry)) (now (path .entry))) .answer) (now (wholes .entry))) × (now (reals .exit) ≡ Answers.realsOpened (opened (now (sheet .entry)) (buffers (now (floats .entry)) (now (words .entry)) (now (path .entry))) .answer) (now (reals .entry))) ⌝ }
+    ensures { λ r. ⌜ (r ≡ opened (now (sheet .entry)) (buffers (now (floats .entry)) (now (words .entry)) (now (path .entry))) .answer .refused) × (buffers (now (floats .exit)) (now (words .exit)) (now (path .exit)) ≡ opened (now (sheet .entry)) (buffers (now (floats .entry)) (now (words .entry)) (now (path .entry))) .all) × (now (wholes .exit) ≡ Answers.wholesOpened (opened (now (sheet .entry)) (buffers (now (floats .entry)) (now (words .entry)) (now (path .entry))) .answer) (now (wholes .entry))) × (now (reals .exit) ≡ Answers.realsOpened (opened (now (sheet .entry)) (buffers (now (floats .entry)) (now (words .entry)) (now (path .entry))) .answer) (now (reals .entry))) ⌝ }
 {
     let opened = run::open(sheet, floats, words, path);
-    match opened {
-        Opened::Refused(k) => k,
-        Opened::Open(r) => {
-            put_run(r, wholes, reals);
-            0
-        }
+    if opened.refused != 0 {
+        return opened.refused;
     }
+    let r = opened.run;
+    put_run(r, wholes, reals);
+    0
 }
 
 // 0 with the record's numbers after the call, or the refusal's.

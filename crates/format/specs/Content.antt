@@ -88,9 +88,3 @@ wholeOr d (Whole.Given v) = v
 abbrev pub realOr : Float → Real → Float
 realOr d Real.Absent = d
 realOr d (Real.Given x) = x
-
-abbrev pub limitOf : Content → ℕ
-limitOf c = wholeOr defaultLimit (c .settings .limit)
-
-abbrev pub toleranceOf : Content → Float
-toleranceOf c = realOr defaultTolerance (c .settings .tolerance)

@@ -195,6 +195,15 @@ pub accepts : (b : List ℕ) (c : Content) → faultOf b ≡ 0 → contentOf b �
 unfolding parse
 accepts b c e f = ap₂ decide e f
 
+-- the number of a refusal is not 0
+pub refuses : (b : List ℕ) (k : ℕ) → parse b ≡ refused k → k ≡ 0 → ⊥
+unfolding parse
+refuses b k h z = go (faultOf b) h
+  where
+    go : (j : ℕ) → decide j (contentOf b) ≡ refused k → ⊥
+    go zero e = let y : _≡_ {A = ℕ} 0 1 = cc in omega arith
+    go (suc j) e = let y : suc j ≡ k = cc in omega arith
+
 -- ---- what is written
 
 pub length-bytesOf : (c : Content) → length (bytesOf c)

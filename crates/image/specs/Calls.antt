@@ -32,6 +32,10 @@ pub record Buffers : Type 0 where
 abbrev pub buffers : List Float → List ℕ → List Float → Buffers
 buffers f w p = record { floats = f; words = w; path = p }
 
+-- a refusal's number, 0 if there is none, with a record
+abbrev pub answered : ℕ → Run → Answer
+answered k r = record { refused = k; run = r }
+
 -- ---- what refuses a call
 
 -- 10 unless a test passes, and 8 where one fails

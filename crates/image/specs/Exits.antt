@@ -24,12 +24,9 @@ use Rattle.work.specs.Seek.{Seeks}
 use Rattle.work.specs.StandingLaws.{goes-place}
 use Rattle.image.specs.declared.Answer.{Answer}
 use Rattle.image.specs.Accepted.{Accepted, accepted, then-first, then-second}
-use Rattle.image.specs.Calls.{Buffers, buffers, heldFault, workOf, soughtAt, markPlace, gone, lateFault, fault, nextRun, runAfter, buffersAfter, Does}
+use Rattle.image.specs.Calls.{Buffers, buffers, answered, heldFault, workOf, soughtAt, markPlace, gone, lateFault, fault, nextRun, runAfter, buffersAfter, Does}
 
--- an answer, and a record at another place with another count
-abbrev pub answered : ℕ → Run → Answer
-answered k r = record { refused = k; run = r }
-
+-- a record at another place with another count
 abbrev pub movedRun : Run → Stand → ℕ → Run
 movedRun r s passes = record { plan = r .plan; stand = s; mark = r .mark; passes = passes }
 

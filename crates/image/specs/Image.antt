@@ -8,9 +8,8 @@ use Rattle.binary64.specs.Constants.{plusZero}
 use Rattle.plane.specs.declared.Point.{Point}
 use Rattle.stretch.specs.Stretch.{flat}
 use Rattle.laplace.specs.Placed.{valuesOf, columnsOf, startsOf, padded}
-use Rattle.format.specs.Content.{Content, vertexCount, triangleCount, limitOf, toleranceOf}
-use Rattle.model.specs.Space.{roomOf, stepOf}
-use Rattle.model.specs.Run.{State, at, matrixOf, rightOf, givenStart}
+use Rattle.model.specs.Task.{Task, vertexCount, triangleCount}
+use Rattle.model.specs.Run.{State, at, matrixOf, rightOf}
 use Rattle.model.specs.Machine.{Counter}
 use Rattle.work.specs.declared.Given.{Given}
 use Rattle.work.specs.declared.Plan.{Plan}
@@ -26,39 +25,39 @@ abbrev pub givenOf : Option Point → Given
 givenOf none = Given.Nothing
 givenOf (some p) = Given.At p
 
-abbrev pub planOf : Content → Plan
+abbrev pub planOf : Task → Plan
 planOf c = record {
   n = vertexCount c;
   t = triangleCount c;
-  limit = limitOf c;
-  room = roomOf c;
-  tolerance = toleranceOf c;
-  step = stepOf c;
-  start = givenOf (givenStart c);
+  limit = c .limit;
+  room = c .room;
+  tolerance = c .tolerance;
+  step = c .step;
+  start = givenOf (c .start);
 }
 
 abbrev pub standOf : ℕ → State → Stand
 standOf p s = record { place = p; rs = s .field .solve .rs; norms = length (s .field .norms); end = s .field .end; walk = s .trail .walk; crossings = s .trail .crossings }
 
-abbrev pub keptAt : Content → ℕ → Kept
+abbrev pub keptAt : Task → ℕ → Kept
 keptAt c p = record { place = p; rs = at c p .field .solve .rs; norms = length (at c p .field .norms) }
 
-abbrev pub markOf : Content → Option ℕ → Mark
+abbrev pub markOf : Task → Option ℕ → Mark
 markOf c none = Mark.Nothing
 markOf c (some p) = Mark.At (keptAt c p)
 
-unfoldable pub runOf : Content → Counter → Run
+unfoldable pub runOf : Task → Counter → Run
 runOf c s = record { plan = planOf c; stand = standOf (s .place) (at c (s .place)); mark = markOf c (s .mark); passes = s .passes }
 
 -- ---- the buffers
 
 -- the marked place's vectors, +0 where there is no mark
-abbrev pub keptVectors : Content → Option ℕ → List Float
+abbrev pub keptVectors : Task → Option ℕ → List Float
 keptVectors c none = replicate (3 * vertexCount c) plusZero
 keptVectors c (some p) = let s = at c p .field .solve in s .x ++ (s .r ++ s .p)
 
 -- the segments before the norms
-abbrev pub frontSegments : Content → State → Option ℕ → List (List Float)
+abbrev pub frontSegments : Task → State → Option ℕ → List (List Float)
 frontSegments c s m =
     c .vertices
     ∷ rightOf c
@@ -72,13 +71,13 @@ frontSegments c s m =
     ∷ s .trail .gradients
     ∷ []
 
-abbrev pub floatSegments : Content → State → Option ℕ → List Float → List (List Float)
-floatSegments c s m rest = frontSegments c s m ++ (padded (limitOf c + 1) plusZero (s .field .norms) ∷ rest ∷ [])
+abbrev pub floatSegments : Task → State → Option ℕ → List Float → List (List Float)
+floatSegments c s m rest = frontSegments c s m ++ (padded (c .limit + 1) plusZero (s .field .norms) ∷ rest ∷ [])
 
-unfoldable pub floatsOf : Content → State → Option ℕ → List Float → List Float
+unfoldable pub floatsOf : Task → State → Option ℕ → List Float → List Float
 floatsOf c s m rest = flat (floatSegments c s m rest)
 
-unfoldable pub wordsOf : Content → List ℕ → List ℕ
+unfoldable pub wordsOf : Task → List ℕ → List ℕ
 wordsOf c rest =
     flat (c .triangles
     ∷ c .neighbours
@@ -91,8 +90,8 @@ wordsOf c rest =
     ∷ rest
     ∷ [])
 
-unfoldable pub pathOf : Content → State → List Float → List Float
-pathOf c s rest = padded (2 * roomOf c) plusZero (s .trail .path) ++ rest
+unfoldable pub pathOf : Task → State → List Float → List Float
+pathOf c s rest = padded (2 * c .room) plusZero (s .trail .path) ++ rest
 
 -- what was lent beyond the places that a run uses, which no call changes
 pub record Rest : Type 0 where
@@ -100,15 +99,15 @@ pub record Rest : Type 0 where
   pub words : List ℕ
   pub path : List Float
 
-unfoldable pub image : Content → Counter → Rest → Buffers
+unfoldable pub image : Task → Counter → Rest → Buffers
 image c s rest = buffers (floatsOf c (at c (s .place)) (s .mark) (rest .floats)) (wordsOf c (rest .words)) (pathOf c (at c (s .place)) (rest .path))
 
 -- where the run's own places end
-abbrev pub floatsUsed : Content → ℕ
-floatsUsed c = 12 * vertexCount c + 11 * triangleCount c + (limitOf c + 1)
+abbrev pub floatsUsed : Task → ℕ
+floatsUsed c = 12 * vertexCount c + 11 * triangleCount c + (c .limit + 1)
 
-abbrev pub wordsUsed : Content → ℕ
+abbrev pub wordsUsed : Task → ℕ
 wordsUsed c = 5 * vertexCount c + 18 * triangleCount c + 1
 
-abbrev pub restOf : Content → Buffers → Rest
-restOf c b = record { floats = drop (floatsUsed c) (b .floats); words = drop (wordsUsed c) (b .words); path = drop (2 * roomOf c) (b .path) }
+abbrev pub restOf : Task → Buffers → Rest
+restOf c b = record { floats = drop (floatsUsed c) (b .floats); words = drop (wordsUsed c) (b .words); path = drop (2 * c .room) (b .path) }

@@ -13,7 +13,7 @@ use lib.Ieee.{Float}
 use borrow.Author.Tests.{not-true}
 use Rattle.binary64.specs.Constants.{plusZero}
 use Rattle.laplace.specs.Placed.{padded}
-use Rattle.format.specs.Content.{Content, limitOf}
+use Rattle.model.specs.Task.{Task}
 use Rattle.model.specs.Run.{at, finished, lastPlace}
 use Rattle.model.specs.Sized.{Sized}
 use Rattle.model.specs.RunLaws.{last-first, last-finished}
@@ -23,7 +23,7 @@ use Rattle.image.specs.ImageLawsSegments.{part-vectors, put-kept}
 use Rattle.image.specs.ImageLawsLengths.{shaped-at, laid, length-kept}
 use Rattle.image.specs.ImageLawsPass.{imageWork, once-over, once-image}
 
-module _ (c : Content) (z : Sized c) (m : Option ℕ) (floats : List Float) (words : List ℕ) (path : List Float) where
+module _ (c : Task) (z : Sized c) (m : Option ℕ) (floats : List Float) (words : List ℕ) (path : List Float) where
   abbrev E : ℕ
   E = lastPlace c
 
@@ -49,9 +49,9 @@ module _ (c : Content) (z : Sized c) (m : Option ℕ) (floats : List Float) (wor
       let e : min (min (p + k) E + 1) E ≡ min (p + suc k) E = omega arith in
       ap (λ (w : Work). once (planOf c) (wordsOf c words) w) (goes-image k p h) ∙ once-at (min (p + k) E) (omega arith) ∙ ap there e
 
-pub mark-image : (c : Content) → Sized c → (p : ℕ) (m : Option ℕ) (floats : List Float) → keptFloats (planOf c) (floatsOf c (at c p) m floats) ≡ floatsOf c (at c p) (some p) floats
+pub mark-image : (c : Task) → Sized c → (p : ℕ) (m : Option ℕ) (floats : List Float) → keptFloats (planOf c) (floatsOf c (at c p) m floats) ≡ floatsOf c (at c p) (some p) floats
 unfolding keptFloats floatsOf
 mark-image c z p m floats =
-    let back = padded (limitOf c + 1) plusZero (at c p .field .norms) ∷ floats ∷ [] in
+    let back = padded (c .limit + 1) plusZero (at c p .field .norms) ∷ floats ∷ [] in
     rw (part-vectors (laid c z (at c p) (shaped-at c z p) m) back)
     (put-kept (laid c z (at c p) (shaped-at c z p) m) back (at c p .field .solve .x ++ (at c p .field .solve .r ++ at c p .field .solve .p)) (length-kept c (some p)))

@@ -14,8 +14,7 @@ use Rattle.mesh.specs.Element as element
 use Rattle.laplace.specs.Matrix.{few-entries}
 use Rattle.laplace.specs.Placed.{valuesOf, columnsOf, startsOf, padded}
 use Rattle.conjugate.specs.Solver.{Solve}
-use Rattle.format.specs.Content.{Content, vertexCount, triangleCount, limitOf}
-use Rattle.model.specs.Space.{roomOf}
+use Rattle.model.specs.Task.{Task, vertexCount, triangleCount}
 use Rattle.model.specs.Run.{State, at, matrixOf, rightOf}
 use Rattle.model.specs.Sized.{Sized, Vectors}
 use Rattle.model.specs.SizeLaws.{matrix-length, right-length}
@@ -26,14 +25,14 @@ use Rattle.image.specs.ImageLawsPadded.{length-padded}
 use Rattle.image.specs.ImageLawsSegments.{zeros, segments, Laid}
 
 -- what a state's lists must be to stand in the buffers
-pub record Shaped (c : Content) (s : State) : Type 0 where
+pub record Shaped (c : Task) (s : State) : Type 0 where
   pub vectors : Vectors (vertexCount c) (s .field .solve)
   pub gradients : length (s .trail .gradients) ≡ 2 * triangleCount c
-  pub norms : length (s .field .norms) ≤ limitOf c + 1
+  pub norms : length (s .field .norms) ≤ c .limit + 1
   pub path : length (s .trail .path) ≡ 2 * s .trail .walk .points
-  pub room : s .trail .walk .points ≤ roomOf c
+  pub room : s .trail .walk .points ≤ c .room
 
-pub shaped-at : (c : Content) → Sized c → (p : ℕ) → Shaped c (at c p)
+pub shaped-at : (c : Task) → Sized c → (p : ℕ) → Shaped c (at c p)
 shaped-at c z p = record {
   vectors = vectors-sized c p;
   gradients = gradients-sized c p;
@@ -45,19 +44,19 @@ shaped-at c z p = record {
 -- ---- the matrix
 
 -- its values and columns have room
-pub few : (c : Content) → Sized c → length (flat (matrixOf c)) ≤ 9 * triangleCount c + vertexCount c
+pub few : (c : Task) → Sized c → length (flat (matrixOf c)) ≤ 9 * triangleCount c + vertexCount c
 unfolding matrixOf
 few c z =
     let e : length (c .triangles) ≡ 3 * triangleCount c = z .triangles in
     omega (arith, length-flat-count (matrixOf c), few-entries (c .tags) element.flat (c .vertices) (c .triangles) (vertexCount c))
 
-pub length-kept-values : (c : Content) → Sized c → length (padded (9 * triangleCount c + vertexCount c) plusZero (valuesOf (matrixOf c))) ≡ 9 * triangleCount c + vertexCount c
+pub length-kept-values : (c : Task) → Sized c → length (padded (9 * triangleCount c + vertexCount c) plusZero (valuesOf (matrixOf c))) ≡ 9 * triangleCount c + vertexCount c
 length-kept-values c z = length-padded (9 * triangleCount c + vertexCount c) plusZero (valuesOf (matrixOf c)) (omega (arith, few c z, length-values (matrixOf c)))
 
-pub length-kept-columns : (c : Content) → Sized c → length (padded (9 * triangleCount c + vertexCount c) 0 (columnsOf (matrixOf c))) ≡ 9 * triangleCount c + vertexCount c
+pub length-kept-columns : (c : Task) → Sized c → length (padded (9 * triangleCount c + vertexCount c) 0 (columnsOf (matrixOf c))) ≡ 9 * triangleCount c + vertexCount c
 length-kept-columns c z = length-padded (9 * triangleCount c + vertexCount c) 0 (columnsOf (matrixOf c)) (omega (arith, few c z, length-columns (matrixOf c)))
 
-pub length-row-starts : (c : Content) → length (startsOf (matrixOf c)) ≡ vertexCount c + 1
+pub length-row-starts : (c : Task) → length (startsOf (matrixOf c)) ≡ vertexCount c + 1
 length-row-starts c = length-starts 0 (matrixOf c) ∙ ap (λ (k : ℕ). k + 1) (matrix-length c)
 
 -- ---- the kept vectors
@@ -65,23 +64,23 @@ length-row-starts c = length-starts 0 (matrixOf c) ∙ ap (λ (k : ℕ). k + 1) 
 three-long : (n : ℕ) (s : Solve) → Vectors n s → length (s .x ++ (s .r ++ s .p)) ≡ 3 * n
 three-long n s v = simp length-append (omega (arith, v .x, v .r, v .p))
 
-pub length-kept : (c : Content) (m : Option ℕ) → length (keptVectors c m) ≡ 3 * vertexCount c
+pub length-kept : (c : Task) (m : Option ℕ) → length (keptVectors c m) ≡ 3 * vertexCount c
 length-kept c none = length-replicate (3 * vertexCount c) plusZero
 length-kept c (some q) = three-long (vertexCount c) (at c q .field .solve) (vectors-sized c q)
 
 -- ---- the floats
 
 -- the segments of the floats with these vectors and gradients, and that each is as long as its place says
-abbrev pub fronts : Content → Option ℕ → List Float → List Float → List Float → List Float → List (List Float) → List (List Float)
+abbrev pub fronts : Task → Option ℕ → List Float → List Float → List Float → List Float → List (List Float) → List (List Float)
 fronts c m x r p g =
     segments (c .vertices) (rightOf c) (zeros (vertexCount c)) (padded (9 * triangleCount c + vertexCount c) plusZero (valuesOf (matrixOf c))) x r p (zeros (vertexCount c)) (keptVectors c m) g
 
-abbrev pub Lies : Content → Option ℕ → List Float → List Float → List Float → List Float → Type 0
+abbrev pub Lies : Task → Option ℕ → List Float → List Float → List Float → List Float → Type 0
 Lies c m x r p g =
     Laid (vertexCount c) (triangleCount c) (c .vertices) (rightOf c) (zeros (vertexCount c)) (padded (9 * triangleCount c + vertexCount c) plusZero (valuesOf (matrixOf c))) x r p
     (zeros (vertexCount c)) (keptVectors c m) g
 
-module _ (c : Content) (z : Sized c) (s : State) (h : Shaped c s) (m : Option ℕ) where
+module _ (c : Task) (z : Sized c) (s : State) (h : Shaped c s) (m : Option ℕ) where
   pub laid : Lies c m (s .field .solve .x) (s .field .solve .r) (s .field .solve .p) (s .trail .gradients)
   laid = record {
     vertices = z .vertices;
@@ -96,8 +95,8 @@ module _ (c : Content) (z : Sized c) (s : State) (h : Shaped c s) (m : Option �
     gradients = h .gradients;
   }
 
-  pub length-norms : length (padded (limitOf c + 1) plusZero (s .field .norms)) ≡ limitOf c + 1
-  length-norms = length-padded (limitOf c + 1) plusZero (s .field .norms) (h .norms)
+  pub length-norms : length (padded (c .limit + 1) plusZero (s .field .norms)) ≡ c .limit + 1
+  length-norms = length-padded (c .limit + 1) plusZero (s .field .norms) (h .norms)
 
   pub length-floats : (rest : List Float) → length (floatsOf c s m rest) ≡ floatsUsed c + length rest
   unfolding floatsOf off
@@ -105,16 +104,16 @@ module _ (c : Content) (z : Sized c) (s : State) (h : Shaped c s) (m : Option �
       let l : Lies c m (s .field .solve .x) (s .field .solve .r) (s .field .solve .p) (s .trail .gradients) = laid in
       length-flat (floatSegments c s m rest) ∙ omega (arith, length-norms)
 
-  pub length-path : (rest : List Float) → length (pathOf c s rest) ≡ 2 * roomOf c + length rest
+  pub length-path : (rest : List Float) → length (pathOf c s rest) ≡ 2 * c .room + length rest
   unfolding pathOf
   length-path rest =
-      length-append (padded (2 * roomOf c) plusZero (s .trail .path)) rest
-      ∙ ap (λ (k : ℕ). k + length rest) (length-padded (2 * roomOf c) plusZero (s .trail .path) (omega (arith, h .path, h .room)))
+      length-append (padded (2 * c .room) plusZero (s .trail .path)) rest
+      ∙ ap (λ (k : ℕ). k + length rest) (length-padded (2 * c .room) plusZero (s .trail .path) (omega (arith, h .path, h .room)))
 
 -- ---- the words
 
 -- the segments before what was lent beyond them
-abbrev pub wordSegments : Content → List (List ℕ)
+abbrev pub wordSegments : Task → List (List ℕ)
 wordSegments c =
     c .triangles
     ∷ c .neighbours
@@ -126,7 +125,7 @@ wordSegments c =
     ∷ replicate (vertexCount c) 0
     ∷ []
 
-pub length-words : (c : Content) → Sized c → (rest : List ℕ) → length (wordsOf c rest) ≡ wordsUsed c + length rest
+pub length-words : (c : Task) → Sized c → (rest : List ℕ) → length (wordsOf c rest) ≡ wordsUsed c + length rest
 unfolding wordsOf off
 length-words c z rest =
     length-flat (wordSegments c ++ (rest ∷ []))
@@ -137,14 +136,14 @@ length-words c z rest =
 split : {A : Type 0} (ss : List (List A)) (rest : List A) → flat (ss ++ (rest ∷ [])) ≡ flat (ss ++ ([] ∷ [])) ++ rest
 split {A} ss rest = flat-snoc ss rest ∙ ap (λ (l : List A). l ++ rest) (sym (flat-snoc ss [] ∙ append-nil (flat ss)))
 
-pub floats-split : (c : Content) (s : State) (m : Option ℕ) (rest : List Float) → floatsOf c s m rest ≡ floatsOf c s m [] ++ rest
+pub floats-split : (c : Task) (s : State) (m : Option ℕ) (rest : List Float) → floatsOf c s m rest ≡ floatsOf c s m [] ++ rest
 unfolding floatsOf
-floats-split c s m rest = split (frontSegments c s m ++ (padded (limitOf c + 1) plusZero (s .field .norms) ∷ [])) rest
+floats-split c s m rest = split (frontSegments c s m ++ (padded (c .limit + 1) plusZero (s .field .norms) ∷ [])) rest
 
-pub words-split : (c : Content) (rest : List ℕ) → wordsOf c rest ≡ wordsOf c [] ++ rest
+pub words-split : (c : Task) (rest : List ℕ) → wordsOf c rest ≡ wordsOf c [] ++ rest
 unfolding wordsOf
 words-split c rest = split (wordSegments c) rest
 
-pub path-split : (c : Content) (s : State) (rest : List Float) → pathOf c s rest ≡ pathOf c s [] ++ rest
+pub path-split : (c : Task) (s : State) (rest : List Float) → pathOf c s rest ≡ pathOf c s [] ++ rest
 unfolding pathOf
-path-split c s rest = ap (λ (l : List Float). l ++ rest) (sym (append-nil (padded (2 * roomOf c) plusZero (s .trail .path))))
+path-split c s rest = ap (λ (l : List Float). l ++ rest) (sym (append-nil (padded (2 * c .room) plusZero (s .trail .path))))

@@ -13,8 +13,7 @@ use Rattle.stretch.specs.Stretch.{part, splice, flat}
 use Rattle.stretch.specs.StretchLaws.{splice-front}
 use Rattle.laplace.specs.Placed.{padded}
 use Rattle.conjugate.specs.Solver.{Solve, begun}
-use Rattle.format.specs.Content.{Content, vertexCount, triangleCount, limitOf}
-use Rattle.model.specs.Space.{roomOf}
+use Rattle.model.specs.Task.{Task, vertexCount, triangleCount}
 use Rattle.model.specs.Run.{State, Field, state, matrixOf, rightOf, noTrail, place0, at}
 use Rattle.model.specs.Sized.{Sized, Vectors}
 use Rattle.model.specs.SizeLaws.{matrix-length, right-length, begun-vectors}
@@ -28,7 +27,7 @@ use Rattle.image.specs.ImageLawsLengths.{Shaped, Lies, shaped-at, laid, 
 use Rattle.image.specs.ImageLawsRead.{matrix-read}
 use Rattle.image.specs.ImageLawsPass.{imageOf, work-is}
 
-module _ (c : Content) (z : Sized c) (s : State) (h : Shaped c s) (p : ℕ) (m : Option ℕ) (floats : List Float) (words : List ℕ) (path : List Float) where
+module _ (c : Task) (z : Sized c) (s : State) (h : Shaped c s) (p : ℕ) (m : Option ℕ) (floats : List Float) (words : List ℕ) (path : List Float) where
   abbrev n : ℕ
   n = vertexCount c
 
@@ -36,7 +35,7 @@ module _ (c : Content) (z : Sized c) (s : State) (h : Shaped c s) (p : ℕ) (m :
   t = triangleCount c
 
   abbrev norms : List Float → List Float
-  norms ns = padded (limitOf c + 1) plusZero ns
+  norms ns = padded (c .limit + 1) plusZero ns
 
   lies : Lies c m (s .field .solve .x) (s .field .solve .r) (s .field .solve .p) (s .trail .gradients)
   lies = laid c z s h m
@@ -49,10 +48,10 @@ module _ (c : Content) (z : Sized c) (s : State) (h : Shaped c s) (p : ℕ) (m :
   unfolding pathOf
   path-erased q f =
       let long : length (s .trail .path) ≡ 2 * s .trail .walk .points = h .path in
-      let l : length (padded (2 * roomOf c) plusZero (s .trail .path)) ≡ 2 * roomOf c = length-padded (2 * roomOf c) plusZero (s .trail .path) (omega (arith, h .room)) in
+      let l : length (padded (2 * c .room) plusZero (s .trail .path)) ≡ 2 * c .room = length-padded (2 * c .room) plusZero (s .trail .path) (omega (arith, h .room)) in
       let e : length (zeros (2 * s .trail .walk .points)) ≡ 2 * s .trail .walk .points = length-replicate (2 * s .trail .walk .points) plusZero in
-      splice-front (padded (2 * roomOf c) plusZero (s .trail .path)) path 0 (zeros (2 * s .trail .walk .points)) (omega (arith, h .room))
-      ∙ ap (λ (y : List Float). y ++ path) (padded-erased (2 * roomOf c) plusZero (s .trail .path) (2 * s .trail .walk .points) long (omega (arith, h .room)))
+      splice-front (padded (2 * c .room) plusZero (s .trail .path)) path 0 (zeros (2 * s .trail .walk .points)) (omega (arith, h .room))
+      ∙ ap (λ (y : List Float). y ++ path) (padded-erased (2 * c .room) plusZero (s .trail .path) (2 * s .trail .walk .points) long (omega (arith, h .room)))
 
   -- ---- to where the field ended
 
@@ -89,12 +88,12 @@ module _ (c : Content) (z : Sized c) (s : State) (h : Shaped c s) (p : ℕ) (m :
       let lr : Lies c m (first .x) (first .r) (s .field .solve .p) (s .trail .gradients) = laid-r lx (v .r) in
       let lp : Lies c m (first .x) (first .r) (first .p) (s .trail .gradients) = laid-p lr (v .p) in
       let lg : Lies c m (first .x) (first .r) (first .p) (zeros (2 * t)) = laid-gradients lp no-gradients in
-      let few : length ns ≤ limitOf c + 1 = h .norms in
+      let few : length ns ≤ c .limit + 1 = h .norms in
       let e : length ns - 0 ≡ length ns = omega arith in
       let a : atNorms n t ≡ atNorms n t + 0 = omega arith in
-      let l : length (norms ns) ≡ limitOf c + 1 = length-norms c z s h m in
+      let l : length (norms ns) ≡ c .limit + 1 = length-norms c z s h m in
       let k : length (zeros (length ns)) ≡ length ns = length-replicate (length ns) plusZero in
-      let l′ : length (norms []) ≡ limitOf c + 1 = length-padded (limitOf c + 1) plusZero [] (omega arith) in
+      let l′ : length (norms []) ≡ c .limit + 1 = length-padded (c .limit + 1) plusZero [] (omega arith) in
       rw (
         put-x lies back (first .x) (v .x),
         put-r lx back (first .r) (v .r),
@@ -103,10 +102,10 @@ module _ (c : Content) (z : Sized c) (s : State) (h : Shaped c s) (p : ℕ) (m :
         put-gradients lp back (zeros (2 * t)) no-gradients,
         e,
         put-norms lg (norms ns) floats 0 (zeros (length ns)) (omega arith),
-        padded-erased (limitOf c + 1) plusZero ns (length ns) refl few,
+        padded-erased (c .limit + 1) plusZero ns (length ns) refl few,
         a,
         put-norms lg (norms []) floats 0 (root (first .rs) ∷ []) (omega arith),
-        padded-more (limitOf c + 1) plusZero [] (root (first .rs) ∷ []) 0 refl (omega arith),
+        padded-more (c .limit + 1) plusZero [] (root (first .rs) ∷ []) 0 refl (omega arith),
       )
 
   pub to-zero : toZero (planOf c) (wordsOf c words) (imageOf c s p m floats path) ≡ imageOf c (place0 c) 0 m floats path
@@ -119,7 +118,7 @@ module _ (c : Content) (z : Sized c) (s : State) (h : Shaped c s) (p : ℕ) (m :
 begins : (short long : List Float) → short ≡ take (length short) long → long ≡ short ++ drop (length short) long
 begins short long e = sym (take-append-drop (length short) long) ∙ ap (λ (l : List Float). l ++ drop (length short) long) (sym e)
 
-module _ (c : Content) (z : Sized c) (s : State) (h : Shaped c s) (p q : ℕ) (floats path : List Float)
+module _ (c : Task) (z : Sized c) (s : State) (h : Shaped c s) (p q : ℕ) (floats path : List Float)
     (grown : at c q .field .norms ≡ take (length (at c q .field .norms)) (s .field .norms)) (going : at c q .field .end ≡ 0) where
   abbrev f : Field
   f = at c q .field
@@ -134,7 +133,7 @@ module _ (c : Content) (z : Sized c) (s : State) (h : Shaped c s) (p q : ℕ) (f
   kept-floats =
       let v : Vectors (vertexCount c) (f .solve) = shaped-at c z q .vectors in
       let ns = s .field .norms in
-      let m = limitOf c + 1 in
+      let m = c .limit + 1 in
       let back = padded m plusZero ns ∷ floats ∷ [] in
       let l = laid c z s h (some q) in
       let lv = laid-p (laid-r (laid-x l {y = f .solve .x} (v .x)) {y = f .solve .r} (v .r)) {y = f .solve .p} (v .p) in

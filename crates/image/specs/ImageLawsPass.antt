@@ -25,9 +25,9 @@ use Rattle.pde.specs.declared.Crossing.{Crossing}
 use Rattle.pde.specs.Start.{triangleContaining, pickStart}
 use Rattle.pde.specs.Crossing.{crossing}
 use Rattle.pde.specs.Path.{walked, added}
-use Rattle.format.specs.Content.{Content, vertexCount, triangleCount, limitOf, toleranceOf}
-use Rattle.model.specs.Space.{roomOf, stepOf, factor}
-use Rattle.model.specs.Run.{State, state, rule, matrixOf, solved, solving, givenStart, set-out, startFrom, starting, crossed, crossingPass, nextBy, passBy, pass, at, finished}
+use Rattle.model.specs.Task.{Task, vertexCount, triangleCount}
+use Rattle.model.specs.Space.{factor}
+use Rattle.model.specs.Run.{State, state, rule, matrixOf, solved, solving, set-out, startFrom, starting, crossed, crossingPass, nextBy, passBy, pass, at, finished}
 use Rattle.model.specs.Run.{nextOf as nextIn}
 use Rattle.model.specs.Sized.{Sized, Vectors}
 use Rattle.model.specs.SizeLaws.{gradients-length}
@@ -44,11 +44,11 @@ use Rattle.image.specs.ImageLawsRead.{words-triangles, words-neighbours,
 use Rattle.image.specs.ImageLawsStep.{clear-segs, reached-segs, moved-segs, norm-segs}
 
 -- the buffers and the scalars of a state, at place p and with a mark
-abbrev pub imageOf : Content → State → ℕ → Option ℕ → List Float → List Float → Work
+abbrev pub imageOf : Task → State → ℕ → Option ℕ → List Float → List Float → Work
 imageOf c s p m floats path = work (floatsOf c s m floats) (pathOf c s path) (standOf p s)
 
 -- those of the state at place p
-abbrev pub imageWork : Content → ℕ → Option ℕ → List Float → List Float → Work
+abbrev pub imageWork : Task → ℕ → Option ℕ → List Float → List Float → Work
 imageWork c p m floats path = imageOf c (at c p) p m floats path
 
 pub work-is : {f f′ p p′ : List Float} {s s′ : Stand} → f ≡ f′ → p ≡ p′ → s ≡ s′ → work f p s ≡ work f′ p′ s′
@@ -68,7 +68,7 @@ pub once-over : (plan : Plan) (words : List ℕ) (w : Work) → eqb (w .stand .w
 unfolding once stepOn nextOf
 once-over plan words w e = rw e (ap (λ (x : List Float). work x (w .path) (w .stand)) (take-append-drop (atNorms (plan .n) (plan .t)) (w .floats)))
 
-module _ (c : Content) (z : Sized c) (s : State) (h : Shaped c s) (p : ℕ) (m : Option ℕ) (floats : List Float) (words : List ℕ) (path : List Float) where
+module _ (c : Task) (z : Sized c) (s : State) (h : Shaped c s) (p : ℕ) (m : Option ℕ) (floats : List Float) (words : List ℕ) (path : List Float) where
   abbrev n : ℕ
   n = vertexCount c
 
@@ -85,7 +85,7 @@ module _ (c : Content) (z : Sized c) (s : State) (h : Shaped c s) (p : ℕ) (m :
   F = flat (frontSegments c s m)
 
   abbrev back : List (List Float)
-  back = padded (limitOf c + 1) plusZero (s .field .norms) ∷ floats ∷ []
+  back = padded (c .limit + 1) plusZero (s .field .norms) ∷ floats ∷ []
 
   abbrev here : Work
   here = imageOf c s p m floats path
@@ -107,13 +107,13 @@ module _ (c : Content) (z : Sized c) (s : State) (h : Shaped c s) (p : ℕ) (m :
       ap (λ (y : List Float). y ++ beyondFront plan (floatsOf c s m floats)) e ∙ ap (λ (y : List Float). flat (fronts c m x r q g []) ++ y) beyond-is ∙ joined-segs l back
 
   -- a step that gives one
-  normed : {x r q g : List Float} → Lies c m x r q g → (f : List Float) (v : Float) → f ≡ flat (fronts c m x r q g []) → length (s .field .norms) + 1 ≤ limitOf c + 1
+  normed : {x r q g : List Float} → Lies c m x r q g → (f : List Float) (v : Float) → f ≡ flat (fronts c m x r q g []) → length (s .field .norms) + 1 ≤ c .limit + 1
       → splice (f ++ beyondFront plan (floatsOf c s m floats)) (atNorms n t + length (s .field .norms)) (v ∷ [])
-      ≡ flat (fronts c m x r q g (padded (limitOf c + 1) plusZero (s .field .norms ++ (v ∷ [])) ∷ floats ∷ []))
+      ≡ flat (fronts c m x r q g (padded (c .limit + 1) plusZero (s .field .norms ++ (v ∷ [])) ∷ floats ∷ []))
   normed {x} {r} {q} {g} l f v e k =
       ap (λ (y : List Float). splice (y ++ beyondFront plan (floatsOf c s m floats)) (atNorms n t + length (s .field .norms)) (v ∷ [])) e
       ∙ ap (λ (y : List Float). splice (flat (fronts c m x r q g []) ++ y) (atNorms n t + length (s .field .norms)) (v ∷ [])) beyond-is
-      ∙ norm-segs l (limitOf c + 1) (s .field .norms) floats v k
+      ∙ norm-segs l (c .limit + 1) (s .field .norms) floats v k
 
   -- ---- a pass of solving
 
@@ -121,41 +121,41 @@ module _ (c : Content) (z : Sized c) (s : State) (h : Shaped c s) (p : ℕ) (m :
       → solvedStand (standOf p s) rs k e ≡ record { place = suc p; rs = rs; norms = k′; end = e; walk = s .trail .walk; crossings = s .trail .crossings }
   solved-stand rs k k′ e q = rw (q, add-one p)
 
-  solved-image : (u : Turn) → Shaped c (state (solved (limitOf c) (s .field) u) (s .trail))
-      → written plan here (solvedStep plan (standOf p s) F u) ≡ imageOf c (state (solved (limitOf c) (s .field) u) (s .trail)) (suc p) m floats path
+  solved-image : (u : Turn) → Shaped c (state (solved (c .limit) (s .field) u) (s .trail))
+      → written plan here (solvedStep plan (standOf p s) F u) ≡ imageOf c (state (solved (c .limit) (s .field) u) (s .trail)) (suc p) m floats path
   unfolding solvedStep solved floatsOf pathOf
   solved-image halted h′ = work-is (plain lies _ (clear-segs lies [])) refl (solved-stand _ _ _ _ refl)
   solved-image (reached x r norm) h′ =
       let long : length (s .field .norms) + 1 ≡ length (s .field .norms ++ (norm ∷ [])) = sym (length-append (s .field .norms) (norm ∷ [])) in
-      let fits : length (s .field .norms ++ (norm ∷ [])) ≤ limitOf c + 1 = h′ .norms in
+      let fits : length (s .field .norms ++ (norm ∷ [])) ≤ c .limit + 1 = h′ .norms in
       let ex : length x ≡ n = h′ .vectors .x in
       let er : length r ≡ n = h′ .vectors .r in
       work-is (normed (laid-r (laid-x lies ex) er) _ norm (reached-segs lies [] x r ex er) (omega arith)) refl (solved-stand _ _ _ _ long)
   solved-image (moved next norm) h′ =
       let long : length (s .field .norms) + 1 ≡ length (s .field .norms ++ (norm ∷ [])) = sym (length-append (s .field .norms) (norm ∷ [])) in
-      let fits : length (s .field .norms ++ (norm ∷ [])) ≤ limitOf c + 1 = h′ .norms in
+      let fits : length (s .field .norms ++ (norm ∷ [])) ≤ c .limit + 1 = h′ .norms in
       let v : Vectors n next = h′ .vectors in
       work-is (normed (laid-p (laid-r (laid-x lies (v .x)) (v .r)) (v .p)) _ norm (moved-segs lies [] (next .x) (next .r) (next .p) (v .x) (v .r) (v .p)) (omega arith))
       refl (solved-stand _ _ _ _ long)
 
-  solve-step : solveStep plan W F (standOf p s) ≡ solvedStep plan (standOf p s) F (Solver.pass element.flat (matrixOf c) (toleranceOf c) (s .field .solve))
+  solve-step : solveStep plan W F (standOf p s) ≡ solvedStep plan (standOf p s) F (Solver.pass element.flat (matrixOf c) (c .tolerance) (s .field .solve))
   unfolding solveStep
   solve-step = rw (matrix-read c z words F (part-values lies []), part-x lies [], part-r lies [], part-p lies [])
 
   solve-image : Shaped c (state (solving c (s .field)) (s .trail)) → written plan here (solveStep plan W F (standOf p s)) ≡ imageOf c (state (solving c (s .field)) (s .trail)) (suc p) m floats path
   unfolding solving
-  solve-image h′ = ap (λ (d : Stepped). written plan here d) solve-step ∙ solved-image (Solver.pass element.flat (matrixOf c) (toleranceOf c) (s .field .solve)) h′
+  solve-image h′ = ap (λ (d : Stepped). written plan here d) solve-step ∙ solved-image (Solver.pass element.flat (matrixOf c) (c .tolerance) (s .field .solve)) h′
 
   -- ---- the path
 
   -- points behind the points
-  path-more : (new : List Float) (at : ℕ) → length (s .trail .path) ≡ at → length (s .trail .path ++ new) ≤ 2 * roomOf c
-      → splice (padded (2 * roomOf c) plusZero (s .trail .path) ++ path) at new ≡ padded (2 * roomOf c) plusZero (s .trail .path ++ new) ++ path
+  path-more : (new : List Float) (at : ℕ) → length (s .trail .path) ≡ at → length (s .trail .path ++ new) ≤ 2 * c .room
+      → splice (padded (2 * c .room) plusZero (s .trail .path) ++ path) at new ≡ padded (2 * c .room) plusZero (s .trail .path ++ new) ++ path
   path-more new at e k =
       let a : length (s .trail .path ++ new) ≡ length (s .trail .path) + length new = length-append (s .trail .path) new in
-      let l : length (padded (2 * roomOf c) plusZero (s .trail .path)) ≡ 2 * roomOf c = length-padded (2 * roomOf c) plusZero (s .trail .path) (omega arith) in
-      splice-front (padded (2 * roomOf c) plusZero (s .trail .path)) path at new (omega arith)
-      ∙ ap (λ (y : List Float). y ++ path) (padded-more (2 * roomOf c) plusZero (s .trail .path) new at e (omega arith))
+      let l : length (padded (2 * c .room) plusZero (s .trail .path)) ≡ 2 * c .room = length-padded (2 * c .room) plusZero (s .trail .path) (omega arith) in
+      splice-front (padded (2 * c .room) plusZero (s .trail .path)) path at new (omega arith)
+      ∙ ap (λ (y : List Float). y ++ path) (padded-more (2 * c .room) plusZero (s .trail .path) new at e (omega arith))
 
   -- ---- the start pass
 
@@ -176,12 +176,12 @@ module _ (c : Content) (z : Sized c) (s : State) (h : Shaped c s) (p : ℕ) (m :
       → written plan here (setOut (standOf p s) G otherwise st) ≡ imageOf c (state (s .field) (set-out st otherwise gs)) (suc p) m floats path
   unfolding setOut floatsOf pathOf
   set-image otherwise (Start.At q i e) k h′ =
-      let fits : 2 ≤ 2 * roomOf c = omega (arith, z .room) in
-      let more : splice (padded (2 * roomOf c) plusZero (s .trail .path) ++ path) 0 (q .x ∷ q .y ∷ []) ≡ padded (2 * roomOf c) plusZero (s .trail .path ++ (q .x ∷ q .y ∷ [])) ++ path =
+      let fits : 2 ≤ 2 * c .room = omega (arith, z .room) in
+      let more : splice (padded (2 * c .room) plusZero (s .trail .path) ++ path) 0 (q .x ∷ q .y ∷ []) ≡ padded (2 * c .room) plusZero (s .trail .path ++ (q .x ∷ q .y ∷ [])) ++ path =
       path-more (q .x ∷ q .y ∷ []) 0 (ap length k) (rw k fits) in
-      work-is (plain (laid-gradients lies gs-long) G refl) (more ∙ ap (λ (y : List Float). padded (2 * roomOf c) plusZero (y ++ (q .x ∷ q .y ∷ [])) ++ path) k) (rw (add-one p))
+      work-is (plain (laid-gradients lies gs-long) G refl) (more ∙ ap (λ (y : List Float). padded (2 * c .room) plusZero (y ++ (q .x ∷ q .y ∷ [])) ++ path) k) (rw (add-one p))
   set-image otherwise Start.Nothing k h′ =
-      work-is (plain (laid-gradients lies gs-long) G refl) (ap (λ (y : List Float). padded (2 * roomOf c) plusZero y ++ path) k) (rw (add-one p))
+      work-is (plain (laid-gradients lies gs-long) G refl) (ap (λ (y : List Float). padded (2 * c .room) plusZero y ++ path) k) (rw (add-one p))
 
   start-image : (g : Option Point) → s .trail .path ≡ [] → Shaped c (state (s .field) (startFrom g c (s .field .solve .x) gs))
       → written plan here (startBy plan W F (standOf p s) (givenOf g)) ≡ imageOf c (state (s .field) (startFrom g c (s .field .solve .x) gs)) (suc p) m floats path
@@ -196,20 +196,20 @@ module _ (c : Content) (z : Sized c) (s : State) (h : Shaped c s) (p : ℕ) (m :
   begin-image : s .trail .walk .points ≡ 0 → Shaped c (state (s .field) (starting c (s .field .solve .x)))
       → written plan here (beginStep plan W F (standOf p s)) ≡ imageOf c (state (s .field) (starting c (s .field .solve .x))) (suc p) m floats path
   unfolding beginStep starting
-  begin-image e h′ = start-image (givenStart c) (nothing (s .trail .path) (omega (arith, h .path))) h′
+  begin-image e h′ = start-image (c .start) (nothing (s .trail .path) (omega (arith, h .path))) h′
 
   -- ---- a crossing
 
-  crossed-image : (x : Crossing) → Shaped c (state (s .field) (crossed (roomOf c) (factor * t) (s .trail) x))
+  crossed-image : (x : Crossing) → Shaped c (state (s .field) (crossed (c .room) (factor * t) (s .trail) x))
       → written plan here (record {
         front = F;
-        stand = record { place = p + 1; rs = s .field .solve .rs; norms = length (s .field .norms); end = s .field .end; walk = walked (roomOf c) (eqb (s .trail .crossings + 1) (factor * t)) (s .trail .walk) x; crossings = s .trail .crossings + 1 };
+        stand = record { place = p + 1; rs = s .field .solve .rs; norms = length (s .field .norms); end = s .field .end; walk = walked (c .room) (eqb (s .trail .crossings + 1) (factor * t)) (s .trail .walk) x; crossings = s .trail .crossings + 1 };
         gives = Gives.Crossed x;
-      }) ≡ imageOf c (state (s .field) (crossed (roomOf c) (factor * t) (s .trail) x)) (suc p) m floats path
+      }) ≡ imageOf c (state (s .field) (crossed (c .room) (factor * t) (s .trail) x)) (suc p) m floats path
   unfolding crossed floatsOf pathOf
   crossed-image x h′ =
-      let new = added (roomOf c) (s .trail .walk) x in
-      let long : length (s .trail .path ++ new) ≤ 2 * roomOf c = omega (arith, h′ .path, h′ .room) in
+      let new = added (c .room) (s .trail .walk) x in
+      let long : length (s .trail .path ++ new) ≤ 2 * c .room = omega (arith, h′ .path, h′ .room) in
       work-is (plain lies F refl) (path-more new (2 * s .trail .walk .points) (h .path) long) (rw (add-one p))
 
   cross-image : Shaped c (state (s .field) (crossingPass c (s .field .solve .x) (s .trail)))
@@ -217,7 +217,7 @@ module _ (c : Content) (z : Sized c) (s : State) (h : Shaped c s) (p : ℕ) (m :
   unfolding crossStep crossingPass
   cross-image h′ =
       rw (part-vertices lies [], part-x lies [], part-gradients lies [], words-triangles c z words, words-neighbours c z words)
-      (crossed-image (crossing rule (c .vertices) (c .triangles) (c .neighbours) t (s .field .solve .x) (s .trail .gradients) (stepOf c) (s .trail .walk .position) (s .trail .walk .triangle) (s .trail .walk .edge)) h′)
+      (crossed-image (crossing rule (c .vertices) (c .triangles) (c .neighbours) t (s .field .solve .x) (s .trail .gradients) (c .step) (s .trail .walk .position) (s .trail .walk .triangle) (s .trail .walk .edge)) h′)
 
   -- ---- any pass
 
@@ -237,11 +237,11 @@ module _ (c : Content) (z : Sized c) (s : State) (h : Shaped c s) (p : ℕ) (m :
 
 -- ---- at a place
 
-pub at-next : (c : Content) (p : ℕ) → at c (suc p) ≡ pass c (at c p)
+pub at-next : (c : Task) (p : ℕ) → at c (suc p) ≡ pass c (at c p)
 unfolding at
 at-next c p = refl
 
-pub once-image : (c : Content) → Sized c → (p : ℕ) (m : Option ℕ) (floats : List Float) (words : List ℕ) (path : List Float) → finished (at c p) ≡ false
+pub once-image : (c : Task) → Sized c → (p : ℕ) (m : Option ℕ) (floats : List Float) (words : List ℕ) (path : List Float) → finished (at c p) ≡ false
     → once (planOf c) (wordsOf c words) (imageWork c p m floats path) ≡ imageWork c (suc p) m floats path
 once-image c z p m floats words path y =
     let e : at c (suc p) ≡ pass c (at c p) = at-next c p in

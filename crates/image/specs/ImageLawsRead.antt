@@ -13,8 +13,7 @@ use Rattle.stretch.specs.StretchLaws.{part-part, part-front}
 use Rattle.stretch.specs.SegmentLaws.{part-seg}
 use Rattle.sparse.specs.Stored.{rowsOf, matrix}
 use Rattle.laplace.specs.Placed.{valuesOf, columnsOf, startsOf, padded}
-use Rattle.format.specs.Content.{Content, vertexCount, triangleCount, limitOf}
-use Rattle.model.specs.Space.{roomOf}
+use Rattle.model.specs.Task.{Task, vertexCount, triangleCount}
 use Rattle.model.specs.Run.{State, matrixOf, rightOf}
 use Rattle.model.specs.Sized.{Sized}
 use Rattle.model.specs.SizeLaws.{matrix-length}
@@ -32,7 +31,7 @@ part-stretch {A} l at k d xs n e f h =
     let a : at + 0 ≡ at = omega arith in
     ap (λ (j : ℕ). part l j n) (sym a) ∙ sym (part-part l at k 0 n (omega arith)) ∙ ap (λ (m : List A). part m 0 n) e ∙ part-padded k d xs n f
 
-module _ (c : Content) (z : Sized c) (rest : List ℕ) where
+module _ (c : Task) (z : Sized c) (rest : List ℕ) where
   abbrev n : ℕ
   n = vertexCount c
 
@@ -75,9 +74,9 @@ module _ (c : Content) (z : Sized c) (rest : List ℕ) where
 
 -- ---- the floats
 
-module _ (c : Content) (z : Sized c) (s : State) (h : Shaped c s) (m : Option ℕ) (rest : List Float) where
+module _ (c : Task) (z : Sized c) (s : State) (h : Shaped c s) (m : Option ℕ) (rest : List Float) where
   abbrev back : List (List Float)
-  back = padded (limitOf c + 1) plusZero (s .field .norms) ∷ rest ∷ []
+  back = padded (c .limit + 1) plusZero (s .field .norms) ∷ rest ∷ []
 
   pub floats-vertices : part (floatsOf c s m rest) 0 (2 * vertexCount c) ≡ c .vertices
   unfolding floatsOf
@@ -107,9 +106,9 @@ module _ (c : Content) (z : Sized c) (s : State) (h : Shaped c s) (m : Option �
   unfolding floatsOf
   floats-gradients = part-gradients (laid c z s h m) back
 
-  pub floats-norms : part (floatsOf c s m rest) (atNorms (vertexCount c) (triangleCount c)) (limitOf c + 1) ≡ padded (limitOf c + 1) plusZero (s .field .norms)
+  pub floats-norms : part (floatsOf c s m rest) (atNorms (vertexCount c) (triangleCount c)) (c .limit + 1) ≡ padded (c .limit + 1) plusZero (s .field .norms)
   unfolding floatsOf
-  floats-norms = part-norms (laid c z s h m) (padded (limitOf c + 1) plusZero (s .field .norms)) rest (limitOf c + 1) (sym (length-norms c z s h m))
+  floats-norms = part-norms (laid c z s h m) (padded (c .limit + 1) plusZero (s .field .norms)) rest (c .limit + 1) (sym (length-norms c z s h m))
 
   -- the part that a pass works on
   pub front-image : frontOf (planOf c) (floatsOf c s m rest) ≡ flat (frontSegments c s m)
@@ -129,6 +128,6 @@ module _ (c : Content) (z : Sized c) (s : State) (h : Shaped c s) (m : Option �
   pub path-points : part (pathOf c s rest) 0 (2 * s .trail .walk .points) ≡ s .trail .path
   unfolding pathOf
   path-points =
-      let l : length (padded (2 * roomOf c) plusZero (s .trail .path)) ≡ 2 * roomOf c = length-padded (2 * roomOf c) plusZero (s .trail .path) (omega (arith, h .path, h .room)) in
-      part-front (padded (2 * roomOf c) plusZero (s .trail .path)) rest 0 (2 * s .trail .walk .points) (omega (arith, h .room))
-      ∙ part-padded (2 * roomOf c) plusZero (s .trail .path) (2 * s .trail .walk .points) (h .path)
+      let l : length (padded (2 * c .room) plusZero (s .trail .path)) ≡ 2 * c .room = length-padded (2 * c .room) plusZero (s .trail .path) (omega (arith, h .path, h .room)) in
+      part-front (padded (2 * c .room) plusZero (s .trail .path)) rest 0 (2 * s .trail .walk .points) (omega (arith, h .room))
+      ∙ part-padded (2 * c .room) plusZero (s .trail .path) (2 * s .trail .walk .points) (h .path)

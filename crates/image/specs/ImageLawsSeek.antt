@@ -12,7 +12,7 @@ use lib.ListN.{length}
 use lib.Ieee.{Float}
 use borrow.Author.Tests.{leb-true, ltb-true, leb-false, le-leb, eqb-true, eqb-false, ne-eqb, not-true}
 use Rattle.binary64.specs.Number.{pick}
-use Rattle.format.specs.Content.{Content, triangleCount, limitOf}
+use Rattle.model.specs.Task.{Task, triangleCount}
 use Rattle.model.specs.Run.{State, Field, Trail, state, noTrail, at, lastPlace}
 use Rattle.model.specs.Sized.{Sized}
 use Rattle.model.specs.SolvedPlace.{solvedPlace}
@@ -32,21 +32,21 @@ state-is : (s : State) (f : Field) (t : Trail) → s .field ≡ f → s .trail �
 state-is s f t a b = ap (λ (x : Field). state x t) (sym a) ∙ ap (λ (x : Trail). state (s .field) x) (sym b)
 
 -- floats have the field and the gradients of a state, and nothing else of it
-same-floats : (c : Content) (m : Option ℕ) (floats : List Float) (s s′ : State) → s .field ≡ s′ .field → s .trail .gradients ≡ s′ .trail .gradients → floatsOf c s m floats ≡ floatsOf c s′ m floats
+same-floats : (c : Task) (m : Option ℕ) (floats : List Float) (s s′ : State) → s .field ≡ s′ .field → s .trail .gradients ≡ s′ .trail .gradients → floatsOf c s m floats ≡ floatsOf c s′ m floats
 unfolding floatsOf
 same-floats c m floats s s′ e g = rw (e, g)
 
 -- ---- where the field had no end
 
 -- whether the field at p has its end, and had it at a place not past the target
-abbrev solvedTest : Content → ℕ → ℕ → Bool
+abbrev solvedTest : Task → ℕ → ℕ → Bool
 solvedTest c p target = not (eqb (at c p .field .end) 0) && leb (solvedPlace (at c p .field)) target
 
-solved-test : (c : Content) (p target : ℕ) → at c p .field .end ≢ 0 → solvedPlace (at c p .field) ≤ target → solvedTest c p target ≡ true
+solved-test : (c : Task) (p target : ℕ) → at c p .field .end ≢ 0 → solvedPlace (at c p .field) ≤ target → solvedTest c p target ≡ true
 solved-test c p target n h = rw (ne-eqb (at c p .field .end) 0 n, le-leb (solvedPlace (at c p .field)) target h)
 
 -- a place not past the target, where the test fails at a later place
-unsolved-kept : (c : Content) (p q target : ℕ) → q ≤ p → q ≤ target → solvedTest c p target ≡ false → at c q .field .end ≡ 0
+unsolved-kept : (c : Task) (p q target : ℕ) → q ≤ p → q ≤ target → solvedTest c p target ≡ false → at c q .field .end ≡ 0
 unsolved-kept c p q target h k e = go (eqb (at c q .field .end) 0) refl
   where
     go : (b : Bool) → eqb (at c q .field .end) 0 ≡ b → at c q .field .end ≡ 0
@@ -59,7 +59,7 @@ unsolved-kept c p q target h k e = go (eqb (at c q .field .end) 0) refl
         let s : solvedPlace (at c p .field) ≡ solvedPlace (at c q .field) = ap solvedPlace f in
         absurd (false≢true (sym e ∙ solved-test c p target n′ (omega arith)))
 
-module _ (c : Content) (z : Sized c) (floats : List Float) (words : List ℕ) (path : List Float) (p target : ℕ) (within : p ≤ lastPlace c) where
+module _ (c : Task) (z : Sized c) (floats : List Float) (words : List ℕ) (path : List Float) (p target : ℕ) (within : p ≤ lastPlace c) where
   abbrev E : ℕ
   E = lastPlace c
 
@@ -137,17 +137,17 @@ module _ (c : Content) (z : Sized c) (floats : List Float) (words : List ℕ) (p
   abbrev by : Option ℕ → Origin → Work
   by m o = onward (fromOrigin (planOf c) (wordsOf c words) o (there m p))
 
-  by-kept : (q : ℕ) (b : Bool) → target < p → solvedTest c p target ≡ false → (leb q target && leb (length (at c q .field .norms)) (limitOf c)) ≡ b
+  by-kept : (q : ℕ) (b : Bool) → target < p → solvedTest c p target ≡ false → (leb q target && leb (length (at c q .field .norms)) (c .limit)) ≡ b
       → by (some q) (pick b (Origin.Kept (keptAt c q)) Origin.Zero) ≡ there (some q) (min target E)
-  by-kept q true h e y = from-kept q h (leb-true q target (and-true (leb q target) (leb (length (at c q .field .norms)) (limitOf c)) y .0)) e
+  by-kept q true h e y = from-kept q h (leb-true q target (and-true (leb q target) (leb (length (at c q .field .norms)) (c .limit)) y .0)) e
   by-kept q false h e y = from-zero (some q)
 
-  by-mark : (m : Option ℕ) → target < p → solvedTest c p target ≡ false → by m (fromMark (limitOf c) (markOf c m) target) ≡ there m (min target E)
+  by-mark : (m : Option ℕ) → target < p → solvedTest c p target ≡ false → by m (fromMark (c .limit) (markOf c m) target) ≡ there m (min target E)
   by-mark none h e = from-zero none
-  by-mark (some q) h e = by-kept q (leb q target && leb (length (at c q .field .norms)) (limitOf c)) h e refl
+  by-mark (some q) h e = by-kept q (leb q target && leb (length (at c q .field .norms)) (c .limit)) h e refl
 
   by-any : (m : Option ℕ) (a b : Bool) → leb p target ≡ a → solvedTest c p target ≡ b
-      → by m (pick a Origin.Here (pick b (pick (ltb (solvedPlace (at c p .field)) target) Origin.Started Origin.Solved) (fromMark (limitOf c) (markOf c m) target))) ≡ there m (min target E)
+      → by m (pick a Origin.Here (pick b (pick (ltb (solvedPlace (at c p .field)) target) Origin.Started Origin.Solved) (fromMark (c .limit) (markOf c m) target))) ≡ there m (min target E)
   by-any m true b x y = arrived m (there m p) p refl within (leb-true p target x)
   by-any m false true x y = from-ended m (ltb (solvedPlace (at c p .field)) target) refl (leb-false p target x) y
   by-any m false false x y = by-mark m (leb-false p target x) y

@@ -19,9 +19,8 @@ use Rattle.mesh.specs.Element as element
 use Rattle.laplace.specs.Assembly.{Push, pushes, row, rows}
 use Rattle.laplace.specs.Matrix.{Below, AllBelow, PushedBelow, row-below, pushes-below}
 use Rattle.laplace.specs.Placed.{columnsIn, columnsOf, startsFrom, startsOf, padded}
-use Rattle.format.specs.Content.{Content, vertexCount, triangleCount, limitOf}
-use Rattle.format.specs.Range.{InRange}
-use Rattle.model.specs.Space.{factor, farthest, roomOf}
+use Rattle.model.specs.Task.{Task, vertexCount, triangleCount}
+use Rattle.model.specs.Space.{factor, farthest}
 use Rattle.model.specs.Run.{at, matrixOf, lastPlace}
 use Rattle.model.specs.Sized.{Sized}
 use Rattle.model.specs.SizeLaws.{sized}
@@ -43,14 +42,14 @@ that-or-below k t w h = ⊎-elim (λ (e : w ≡ k). rw (eq-eqb w k e)) (λ (l : 
 
 -- ---- the counts of a place and of a mark
 
-module _ (c : Content) (z : Sized c) where
+module _ (c : Task) (z : Sized c) where
   abbrev n : ℕ
   n = vertexCount c
 
   abbrev t : ℕ
   t = triangleCount c
 
-  norms-in : (p : ℕ) (b : Bool) → eqb (at c p .field .end) 0 ≡ b → length (at c p .field .norms) ≤ limitOf c + pick b 0 1
+  norms-in : (p : ℕ) (b : Bool) → eqb (at c p .field .end) 0 ≡ b → length (at c p .field .norms) ≤ c .limit + pick b 0 1
   norms-in p true e = omega (arith, norms-below c p (eqb-true (at c p .field .end) 0 e))
   norms-in p false e = norms-bound c p
 
@@ -72,16 +71,16 @@ module _ (c : Content) (z : Sized c) where
   pub stand-sound : (p : ℕ) → p ≤ lastPlace c → standSound (planOf c) (standOf p (at c p)) ≡ true
   unfolding standSound
   stand-sound p h =
-      let far : p ≤ farthest t (limitOf c) = omega (arith, last-bound c) in
+      let far : p ≤ farthest t (c .limit) = omega (arith, last-bound c) in
       rw (
-        le-leb p (farthest t (limitOf c)) far,
+        le-leb p (farthest t (c .limit)) far,
         le-leb 1 (length (at c p .field .norms)) (norms-some c p),
-        le-leb (length (at c p .field .norms)) (limitOf c + pick (eqb (at c p .field .end) 0) 0 1) (norms-in p (eqb (at c p .field .end) 0) refl),
+        le-leb (length (at c p .field .norms)) (c .limit + pick (eqb (at c p .field .end) 0) 0 1) (norms-in p (eqb (at c p .field .end) 0) refl),
         le-leb (at c p .field .end) 3 (field-end-bound c p),
         le-leb (at c p .trail .walk .end) 9 (path-end-bound c p),
         le-leb (at c p .trail .walk .edge) 3 (walk-edge c z p),
         triangle-sound p,
-        le-leb (at c p .trail .walk .points) (roomOf c) (points-bound c (z .room) p),
+        le-leb (at c p .trail .walk .points) (c .room) (points-bound c (z .room) p),
         le-leb (at c p .trail .crossings) (factor * t) (crossings-bound c p),
       )
       (walk-sound p (eqb (at c p .trail .walk .points) 0) refl)
@@ -95,8 +94,8 @@ module _ (c : Content) (z : Sized c) where
   unfolding markSound
   mark-sound none h = refl
   mark-sound (some q) h =
-      let far : q ≤ farthest t (limitOf c) = omega (arith, last-bound c) in
-      rw (le-leb q (farthest t (limitOf c)) far, le-leb 1 (length (at c q .field .norms)) (norms-some c q)) (le-leb (length (at c q .field .norms)) (limitOf c + 1) (norms-bound c q))
+      let far : q ≤ farthest t (c .limit) = omega (arith, last-bound c) in
+      rw (le-leb q (farthest t (c .limit)) far, le-leb 1 (length (at c q .field .norms)) (norms-some c q)) (le-leb (length (at c q .field .norms)) (c .limit + 1) (norms-bound c q))
 
 -- ---- lists of indices
 
@@ -164,7 +163,7 @@ zeros-below n (suc k) h = let e : 0 < n = h (omega arith) in both (ltb 0 n) (all
 
 -- ---- the words of an image
 
-module _ (c : Content) (h : InRange c) (rest : List ℕ) where
+module _ (c : Task) (h : Sized c) (rest : List ℕ) where
   corners-below : (allBelow (vertexCount c) (c .triangles) ≡ true) × AllBelow (vertexCount c) (c .triangles)
   corners-below = below-each (vertexCount c) (c .triangles) (h .corners)
 
@@ -175,12 +174,12 @@ module _ (c : Content) (h : InRange c) (rest : List ℕ) where
       go : (n : ℕ) → vertexCount c ≡ n → 0 < n
       go (suc n) y = omega arith
       go zero y =
-          let l : length (c .triangles) ≡ 3 * triangleCount c = h .triples in
+          let l : length (c .triangles) ≡ 3 * triangleCount c = h .triangles in
           absurd (none-left (triangleCount c) refl)
         where
           none-left : (t : ℕ) → triangleCount c ≡ t → ⊥
           none-left zero q = e (omega arith)
-          none-left (suc t) q = let b : getD (c .triangles) 0 0 < vertexCount c = h .corners 0 (omega (arith, h .triples)) in omega arith
+          none-left (suc t) q = let b : getD (c .triangles) 0 0 < vertexCount c = h .corners 0 (omega (arith, h .triangles)) in omega arith
 
   columns-sound : allBelow (vertexCount c) (padded (9 * triangleCount c + vertexCount c) 0 (columnsOf (matrixOf c))) ≡ true
   unfolding padded matrixOf
@@ -192,8 +191,7 @@ module _ (c : Content) (h : InRange c) (rest : List ℕ) where
   pub words-sound : wordsSound (planOf c) (wordsOf c rest) ≡ true
   unfolding wordsSound
   words-sound =
-      let z : Sized c = sized c h in
       let n = vertexCount c in
       let t = triangleCount c in
-      rw (words-triangles c z rest, words-neighbours c z rest, words-starts c z rest, words-columns c z rest, corners-below .0, none-each t (c .neighbours) (z .inRange), starts-sound (9 * t + n) (matrixOf c) (few c z))
+      rw (words-triangles c h rest, words-neighbours c h rest, words-starts c h rest, words-columns c h rest, corners-below .0, none-each t (c .neighbours) (h .inRange), starts-sound (9 * t + n) (matrixOf c) (few c h))
       columns-sound

@@ -1,12 +1,11 @@
--- What the theorem over lists of calls takes of the image holds of every content in range: `Facts` and `Parts`. Assumes nothing.
+-- What the theorem over lists of calls takes of the image holds of every task whose sizes are in range: `Facts` and `Parts`. Assumes nothing.
 use mathlib.Core.Option.{Option, none, some}
 use Prim.Native.Nat.{ℕ}
 use native.Mathlib.Omega.{arith}
-use Rattle.format.specs.Content.{Content}
-use Rattle.format.specs.Range.{InRange}
+use Rattle.model.specs.Task.{Task}
 use Rattle.model.specs.Run.{at, matrixOf, lastPlace}
 use Rattle.model.specs.Sized.{Sized}
-use Rattle.model.specs.SizeLaws.{sized, right-length}
+use Rattle.model.specs.SizeLaws.{right-length}
 use Rattle.model.specs.RunLaws.{last-bound, vectors-sized, gradients-sized, norms-bound, path-sized, points-bound}
 use Rattle.image.specs.ImageFacts.{MarkIn, Facts, Parts}
 use Rattle.image.specs.ImageLawsGoes as Goes
@@ -16,10 +15,7 @@ use Rattle.image.specs.ImageLawsRead.{matrix-image}
 use Rattle.image.specs.ImageLawsSeek as Seek
 use Rattle.image.specs.ImageLawsSound as Sound
 
-module _ (c : Content) (good : InRange c) where
-  z : Sized c
-  z = sized c good
-
+module _ (c : Task) (z : Sized c) where
   marked : (m : Option ℕ) → MarkIn m (lastPlace c) → Sound.MarkIn c z m
   marked none h = tt
   marked (some q) h = h
@@ -31,7 +27,7 @@ module _ (c : Content) (good : InRange c) where
     last-bound = last-bound c;
     stand-sound = λ p h. Sound.stand-sound c z p h;
     mark-sound = λ m h. Sound.mark-sound c z m (marked m h);
-    words-sound = λ words. Sound.words-sound c good words;
+    words-sound = λ words. Sound.words-sound c z words;
     floats-long = λ p m floats h k. length-floats c z (at c p) (shaped-at c z p) m floats;
     words-long = λ words. length-words c z words;
     path-long = λ p path h. length-path c z (at c p) (shaped-at c z p) none path;

@@ -12,11 +12,9 @@ use lib.Dec.{ltb, eqb}
 use lib.Ieee.{Float}
 use Rattle.binary64.specs.Number.{pick}
 use Rattle.stretch.specs.Stretch.{flat}
-use Rattle.format.specs.declared.Whole.{Whole}
-use Rattle.format.specs.Content.{Content, triangleCount, limitOf, wholeOr, defaultLimit, maxLimit, maxRoom}
-use Rattle.format.specs.Refusal.{hasWhole}
-use Rattle.format.specs.Range.{Between, OfWhole, InRange}
-use Rattle.model.specs.Space.{roomOf, farthest}
+use Rattle.model.specs.Task.{Task, triangleCount}
+use Rattle.model.specs.Space.{farthest}
+use Rattle.model.specs.Sized.{Sized}
 use Rattle.model.specs.Run.{State, at, lastPlace}
 use Rattle.model.specs.Machine.{Call, advance, back, mark, return, Space, Counter, fresh, most, needs, noMark, late, refused, markOr, moved, tick, Lent, within, ticks}
 use Rattle.work.specs.declared.Run.{Run}
@@ -65,39 +63,29 @@ pub record Within (last : ℕ) (s : Counter) : Type 0 where
 pub fresh-within : (last : ℕ) → Within last fresh
 fresh-within last = record { place-in = omega arith; mark-in = tt }
 
-limit-in : (w : Whole) → OfWhole (Between 0 maxLimit) w → wholeOr defaultLimit w ≤ maxLimit
-limit-in Whole.Absent h = omega arith
-limit-in (Whole.Given v) h = h .greatest
-
-room-in : (w : Whole) → OfWhole (Between 1 maxRoom) w → hasWhole w ≡ true → Between 1 maxRoom (wholeOr 0 w)
-room-in Whole.Absent h e = let z : _≡_ {A = ℕ} 0 1 = cc in absurd (omega arith)
-room-in (Whole.Given v) h e = h
-
--- an accepted sheet's counts are in range
-pub counted : (c : Content) → InRange c → Counted (planOf c)
-counted c good =
-    let r : _ = room-in (c .settings .room) (good .room) (good .roomGiven) in
-    record { vertices = good .vertices; triangles = good .triangles; limit = limit-in (c .settings .limit) (good .limit); least = r .least; room = r .greatest }
+-- a task's counts are in range
+pub counted : (c : Task) → Sized c → Counted (planOf c)
+counted c good = record { vertices = good .vertices-most; triangles = good .triangles-most; limit = good .limit-most; least = good .room; room = good .room-most }
 
 -- ---- the buffers of an image
 
 -- how many places they have
-abbrev pub sizes : Content → Rest → Space
-sizes c rest = record { floats = floatsUsed c + length (rest .floats); words = wordsUsed c + length (rest .words); path = 2 * roomOf c + length (rest .path) }
+abbrev pub sizes : Task → Rest → Space
+sizes c rest = record { floats = floatsUsed c + length (rest .floats); words = wordsUsed c + length (rest .words); path = 2 * c .room + length (rest .path) }
 
 -- the rest of a front that is lent
-abbrev lentRest : Content → Space → Rest → Rest
-lentRest c lent rest = record { floats = take (lent .floats - floatsUsed c) (rest .floats); words = take (lent .words - wordsUsed c) (rest .words); path = take (lent .path - 2 * roomOf c) (rest .path) }
+abbrev pub lentRest : Task → Space → Rest → Rest
+lentRest c lent rest = record { floats = take (lent .floats - floatsUsed c) (rest .floats); words = take (lent .words - wordsUsed c) (rest .words); path = take (lent .path - 2 * c .room) (rest .path) }
 
-floats-split : (c : Content) (s : State) (m : Option ℕ) (rest : List Float) → floatsOf c s m rest ≡ floatsOf c s m [] ++ rest
+floats-split : (c : Task) (s : State) (m : Option ℕ) (rest : List Float) → floatsOf c s m rest ≡ floatsOf c s m [] ++ rest
 unfolding floatsOf flat
 floats-split c s m rest = simp (append-assoc, append-nil)
 
-words-split : (c : Content) (rest : List ℕ) → wordsOf c rest ≡ wordsOf c [] ++ rest
+words-split : (c : Task) (rest : List ℕ) → wordsOf c rest ≡ wordsOf c [] ++ rest
 unfolding wordsOf flat
 words-split c rest = simp (append-assoc, append-nil)
 
-path-split : (c : Content) (s : State) (rest : List Float) → pathOf c s rest ≡ pathOf c s [] ++ rest
+path-split : (c : Task) (s : State) (rest : List Float) → pathOf c s rest ≡ pathOf c s [] ++ rest
 unfolding pathOf
 path-split c s rest = rw append-nil
 
@@ -105,10 +93,10 @@ pub lengths-front : (lent : Space) (b : Buffers) → lengthsOf (front lent b) �
 lengths-front lent b = rw (length-take (lent .floats) (b .floats), length-take (lent .words) (b .words), length-take (lent .path) (b .path))
 
 -- floats, path and stand of an image
-abbrev workOn : Content → Counter → Rest → Work
+abbrev workOn : Task → Counter → Rest → Work
 workOn c s rest = workAt c (s .place) (s .mark) (rest .floats) (rest .path)
 
-module _ (c : Content) (facts : Facts c) where
+module _ (c : Task) (facts : Facts c) where
   floats-lead : (s : Counter) → Within (lastPlace c) s → Leads (λ r. floatsOf c (at c (s .place)) (s .mark) r) (floatsUsed c)
   floats-lead s w = record {
     head = floatsOf c (at c (s .place)) (s .mark) [];
@@ -119,7 +107,7 @@ module _ (c : Content) (facts : Facts c) where
   words-lead : Leads (λ r. wordsOf c r) (wordsUsed c)
   words-lead = record { head = wordsOf c []; split = λ r. words-split c r; long = facts .words-long [] ∙ omega arith }
 
-  path-lead : (s : Counter) → Within (lastPlace c) s → Leads (λ r. pathOf c (at c (s .place)) r) (2 * roomOf c)
+  path-lead : (s : Counter) → Within (lastPlace c) s → Leads (λ r. pathOf c (at c (s .place)) r) (2 * c .room)
   path-lead s w = record { head = pathOf c (at c (s .place)) []; split = λ r. path-split c (at c (s .place)) r; long = facts .path-long (s .place) [] (w .place-in) ∙ omega arith }
 
   pub lengths-image : (s : Counter) (rest : Rest) → Within (lastPlace c) s → lengthsOf (image c s rest) ≡ sizes c rest
@@ -128,13 +116,13 @@ module _ (c : Content) (facts : Facts c) where
       rw (facts .floats-long (s .place) (s .mark) (rest .floats) (w .place-in) (w .mark-in), facts .words-long (rest .words), facts .path-long (s .place) (rest .path) (w .place-in))
 
   -- a front that is long enough is an image too
-  front-image : (s : Counter) (rest : Rest) (lent : Space) → Within (lastPlace c) s → Enough (needs c) lent → front lent (image c s rest) ≡ image c s (lentRest c lent rest)
+  pub front-image : (s : Counter) (rest : Rest) (lent : Space) → Within (lastPlace c) s → Enough (needs c) lent → front lent (image c s rest) ≡ image c s (lentRest c lent rest)
   unfolding image needs
   front-image s rest lent w h =
       let f : _ = h .floats in
       let g : _ = h .words in
       let k : _ = h .path in
-      rw (take-front _ (floatsUsed c) (floats-lead s w) (rest .floats) (lent .floats) (omega arith), take-front _ (wordsUsed c) words-lead (rest .words) (lent .words) (omega arith), take-front _ (2 * roomOf c) (path-lead s w) (rest .path) (lent .path) (omega arith))
+      rw (take-front _ (floatsUsed c) (floats-lead s w) (rest .floats) (lent .floats) (omega arith), take-front _ (wordsUsed c) words-lead (rest .words) (lent .words) (omega arith), take-front _ (2 * c .room) (path-lead s w) (rest .path) (lent .path) (omega arith))
 
   -- and one image in place of another's front is that image whole
   behind-image : (s s′ : Counter) (rest : Rest) (lent : Space) → Within (lastPlace c) s → Within (lastPlace c) s′ → Enough (needs c) lent
@@ -144,7 +132,7 @@ module _ (c : Content) (facts : Facts c) where
       let f : _ = h .floats in
       let g : _ = h .words in
       let k : _ = h .path in
-      rw (rejoined _ _ (floatsUsed c) (floats-lead s w) (floats-lead s′ w′) (rest .floats) (lent .floats) (omega arith), rejoined _ _ (wordsUsed c) words-lead words-lead (rest .words) (lent .words) (omega arith), rejoined _ _ (2 * roomOf c) (path-lead s w) (path-lead s′ w′) (rest .path) (lent .path) (omega arith))
+      rw (rejoined _ _ (floatsUsed c) (floats-lead s w) (floats-lead s′ w′) (rest .floats) (lent .floats) (omega arith), rejoined _ _ (wordsUsed c) words-lead words-lead (rest .words) (lent .words) (omega arith), rejoined _ _ (2 * c .room) (path-lead s w) (path-lead s′ w′) (rest .path) (lent .path) (omega arith))
 
   -- ---- where a call leads from an image
 
@@ -168,7 +156,7 @@ module _ (c : Content) (facts : Facts c) where
   unfolding gone runOf image
   gone-at (advance k) s rest w =
       let l : _ = facts .last-bound in
-      sought s rest (min (s .place + k) (farthest (triangleCount c) (limitOf c))) (min (s .place + k) (lastPlace c)) w (omega arith)
+      sought s rest (min (s .place + k) (farthest (triangleCount c) (c .limit))) (min (s .place + k) (lastPlace c)) w (omega arith)
   gone-at (back k) s rest w = let h : s .place ≤ lastPlace c = w .place-in in sought s rest (s .place - k) (s .place - k) w (omega arith)
   gone-at mark s rest w = ap (λ (l : List Float). work l (pathOf c (at c (s .place)) (rest .path)) (standOf (s .place) (at c (s .place)))) (facts .mark-image (s .place) (s .mark) (rest .floats) (w .place-in) (w .mark-in))
   gone-at return s rest w =
@@ -221,7 +209,7 @@ module _ (c : Content) (facts : Facts c) where
 -- ---- one call
 
 -- A call on an image, lent a front, is refused by k and leaves the image where the machine stands at s′.
-record Called (c : Content) (call : Call) (s : Counter) (rest : Rest) (lent : Space) (s′ : Counter) (k : ℕ) : Type 0 where
+record Called (c : Task) (call : Call) (s : Counter) (rest : Rest) (lent : Space) (s′ : Counter) (k : ℕ) : Type 0 where
   said : fault call (runOf c s) (front lent (image c s rest)) ≡ k
   left : runAfter call (runOf c s) (front lent (image c s rest)) ≡ runOf c s′
   held : behind lent (image c s rest) (buffersAfter call (runOf c s) (front lent (image c s rest))) ≡ image c s′ rest
@@ -239,13 +227,13 @@ enough-front lent b {need} h =
     record { floats = omega arith; words = omega arith; path = omega arith }
 
 -- where a call that is lent enough leads
-abbrev next : Content → Call → Counter → Counter
+abbrev next : Task → Call → Counter → Counter
 next c call s = pick (eqb (late (lastPlace c) call s) 0) (moved (lastPlace c) call s) s
 
-abbrev heldOf : Content → Counter → Rest → List ℕ → Held
+abbrev heldOf : Task → Counter → Rest → List ℕ → Held
 heldOf c s rest said = record { run = runOf c s; all = image c s rest; said = said }
 
-module _ (c : Content) (good : InRange c) (facts : Facts c) where
+module _ (c : Task) (good : Sized c) (facts : Facts c) where
   -- lent too little
   called-short : (call : Call) (s : Counter) (rest : Rest) (lent : Space) → lacking (needs c) (lengthsOf (front lent (image c s rest))) ≡ true → Called c call s rest lent s 8
   unfolding fault runOf needs

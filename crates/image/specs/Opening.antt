@@ -13,13 +13,14 @@ use Rattle.sparse.specs.Stored.{Sound}
 use Rattle.laplace.specs.declared.Places.{Places}
 use Rattle.laplace.specs.Placed.{valuesOf, padded}
 use Rattle.conjugate.specs.Solver.{Solve}
-use Rattle.format.specs.Content.{Content, vertexCount, triangleCount, maxVertices, maxTriangles, maxLimit, defaultLimit, defaultTolerance, wholeOr, realOr}
+use Rattle.format.specs.Content.{maxVertices, maxTriangles, maxLimit, defaultLimit, defaultTolerance, wholeOr, realOr}
 use Rattle.format.specs.Range.{InRange}
 use Rattle.format.specs.Sheet.{contentOf}
 use Rattle.sheet.specs.declared.Header.{Header}
 use Rattle.sheet.specs.Items.{vertexIn, wholeIn}
 use Rattle.sheet.specs.ItemLaws.{IsAccepted}
-use Rattle.model.specs.Run.{bothGiven, matrixOf, rightOf}
+use Rattle.model.specs.Task.{Task, vertexCount, triangleCount, bothGiven, task}
+use Rattle.model.specs.Run.{matrixOf, rightOf}
 use Rattle.work.specs.declared.Plan.{Plan}
 use Rattle.work.specs.Layout.{atRight, atRow, atValues, atKept, atNorms, atNeighbours, atTags, atStarts, atColumns, atHeads, atLinks, atRowColumns, matrixAt}
 use Rattle.work.specs.Memory.{begunAgain, vectorsPut}
@@ -82,13 +83,13 @@ pub record Fits (h : Header) (floats words : ℕ) : Type 0 where
   pub words-fit : 5 * h .n + 18 * h .t + 1 ≤ words
 
 -- the content's lists at the front of each buffer
-abbrev pub meshFloats : Content → List Float → List Float
+abbrev pub meshFloats : Task → List Float → List Float
 meshFloats c floats = splice floats 0 (c .vertices)
 
-abbrev pub meshWords : Content → List ℕ → List ℕ
+abbrev pub meshWords : Task → List ℕ → List ℕ
 meshWords c words = splice (splice (splice words 0 (c .triangles)) (atNeighbours (triangleCount c)) (c .neighbours)) (atTags (triangleCount c)) (c .tags)
 
-pub record Loaded (c : Content) (floats : List Float) (words : List ℕ) (floats′ : List Float) (words′ : List ℕ) : Type 0 where
+pub record Loaded (c : Task) (floats : List Float) (words : List ℕ) (floats′ : List Float) (words′ : List ℕ) : Type 0 where
   pub floats-are : floats′ ≡ meshFloats c floats
   pub words-are : words′ ≡ meshWords c words
 
@@ -109,12 +110,12 @@ placesAt n t = record {
 }
 
 -- the right side, the row buffer and the values behind the vertices; the words are those of every place
-unfoldable pub assembledFloats : Content → List Float → List Float
+unfoldable pub assembledFloats : Task → List Float → List Float
 assembledFloats c floats =
     splice (splice (splice (meshFloats c floats) (atRight (vertexCount c) (triangleCount c)) (rightOf c)) (atRow (vertexCount c) (triangleCount c)) (replicate (vertexCount c) plusZero))
     (atValues (vertexCount c) (triangleCount c)) (padded (9 * triangleCount c + vertexCount c) plusZero (valuesOf (matrixOf c)))
 
-pub record LaidOut (c : Content) (floats : List Float) (words : List ℕ) (floats′ : List Float) (words′ : List ℕ) : Type 0 where
+pub record LaidOut (c : Task) (floats : List Float) (words : List ℕ) (floats′ : List Float) (words′ : List ℕ) : Type 0 where
   pub floats-are : floats′ ≡ assembledFloats c floats
   pub words-are : words′ ≡ wordsOf c (drop (wordsUsed c) words)
 
@@ -149,9 +150,9 @@ lacks p floats words path = lacking (asked p) (record { floats = floats; words =
 pub record Suffices (sheet : List ℕ) (h : Header) (plan : Plan) (b : Buffers) : Type 0 where
   pub read : Read sheet h
   pub plan-is : plan ≡ planBy h
-  pub space : Enough (needs (contentOf sheet)) (lengthsOf b)
+  pub space : Enough (needs (task (contentOf sheet))) (lengthsOf b)
 
 -- the run of a content at place 0
-pub record Stands (c : Content) (b : Buffers) (run : Run) (b′ : Buffers) : Type 0 where
+pub record Stands (c : Task) (b : Buffers) (run : Run) (b′ : Buffers) : Type 0 where
   pub run-is : run ≡ runOf c fresh
   pub held : b′ ≡ image c fresh (restOf c b)

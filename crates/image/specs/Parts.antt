@@ -1,4 +1,4 @@
--- What a run shows of its field, as parts of the lent floats: none where a count of the record is past its most or the part past the buffer's end. Definitions only. Assumes nothing.
+-- What a run shows of its field, as parts of the lent floats: none where n or T is past its most or the part past the buffer's end. Definitions only. Assumes nothing.
 use Prim.Native.Nat.{ℕ, _+_, _*_}
 use mathlib.Core.List.{List, []}
 use lib.Dec.{leb}

@@ -7,11 +7,12 @@ use lib.ListN.{length, drop, getD}
 use Rattle.binary64.specs.Number.{pick}
 use Rattle.format.specs.Content.{Content}
 use Rattle.format.specs.Sheet.{Parsed, accepted, refused, parse}
+use Rattle.model.specs.Task.{Task, task}
 use Rattle.model.specs.Machine.{Call, advance, back, mark, return, fresh, needs, short, Lent, Ticked}
 use Rattle.work.specs.declared.Run.{Run}
-use Rattle.image.specs.declared.Opened.{Opened}
+use Rattle.work.specs.Record.{noRun}
 use Rattle.image.specs.declared.Answer.{Answer}
-use Rattle.image.specs.Calls.{Buffers, fault, runAfter, buffersAfter}
+use Rattle.image.specs.Calls.{Buffers, answered, fault, runAfter, buffersAfter}
 use Rattle.image.specs.Image.{runOf, image, restOf}
 use Rattle.image.specs.Lists.{Held, front, behind, performs}
 use Rattle.image.specs.Shown.{lengthsOf, machine, Shown}
@@ -20,27 +21,30 @@ use Rattle.image.specs.Shown.{lengthsOf, machine, Shown}
 
 -- what opening answers, and the buffers after it
 pub record Opening : Type 0 where
-  pub answer : Opened
+  pub answer : Answer
   pub all : Buffers
 
-abbrev pub opening : Opened → Buffers → Opening
-opening a b = record { answer = a; all = b }
+abbrev pub opening : ℕ → Run → Buffers → Opening
+opening k run b = record { answer = answered k run; all = b }
 
--- The sheet's refusal, then 8, with all buffers as they were; else the run at place 0.
+-- The sheet's refusal, then 8, with no run and all buffers as they were; else the run at place 0.
 abbrev pub openedBy : Parsed → Buffers → Opening
-openedBy (refused k) b = opening (Opened.Refused k) b
+openedBy (refused k) b = opening k noRun b
 openedBy (accepted c) b =
-    pick (eqb (short (needs c) (lengthsOf b)) 0) (opening (Opened.Open (runOf c fresh)) (image c fresh (restOf c b))) (opening (Opened.Refused (short (needs c) (lengthsOf b))) b)
+    pick (eqb (short (needs (task c)) (lengthsOf b)) 0) (opening 0 (runOf (task c) fresh) (image (task c) fresh (restOf (task c) b))) (opening (short (needs (task c)) (lengthsOf b)) noRun b)
 
 unfoldable pub opened : List ℕ → Buffers → Opening
 opened sheet b = openedBy (parse sheet) b
 
 -- what `open` ensures
-pub record Opens (sheet : List ℕ) (b : Buffers) (a : Opened) (b′ : Buffers) : Type 0 where
+pub record Opens (sheet : List ℕ) (b : Buffers) (a : Answer) (b′ : Buffers) : Type 0 where
   pub answer : a ≡ opened sheet b .answer
   pub held : b′ ≡ opened sheet b .all
 
--- ---- a list of calls as numbers, five for each: kind, k, and how many floats, words and places of the path are lent
+-- ---- a list of calls as numbers, six for each: kind, k, a number that no call takes yet, and how many floats, words and places of the path are lent
+
+abbrev pub callWords : ℕ
+callWords = 6
 
 -- kind 0 is advance, 1 back, 2 mark, any other return; mark and return take no k
 abbrev pub callOf : ℕ → ℕ → Call
@@ -51,8 +55,8 @@ callOf (suc (suc (suc j))) k = return
 
 abbrev pub lentAt : List ℕ → ℕ → Lent
 lentAt l i = record {
-  call = callOf (getD l (5 * i) 0) (getD l (5 * i + 1) 0);
-  space = record { floats = getD l (5 * i + 2) 0; words = getD l (5 * i + 3) 0; path = getD l (5 * i + 4) 0 };
+  call = callOf (getD l (callWords * i) 0) (getD l (callWords * i + 1) 0);
+  space = record { floats = getD l (callWords * i + 3) 0; words = getD l (callWords * i + 4) 0; path = getD l (callWords * i + 5) 0 };
 }
 
 -- the first i calls
@@ -68,7 +72,7 @@ pub record Turned (l : Lent) (run : Run) (b : Buffers) (a : Answer) (b′ : Buff
 
 -- as many as there are whole ones, and places for their refusals
 abbrev pub callCount : List ℕ → List ℕ → ℕ
-callCount l said = min (length said) (length l / 5)
+callCount l said = min (length said) (length l / callWords)
 
 -- the first i calls, from a record and the buffers
 unfoldable pub replayed : List ℕ → ℕ → Run → Buffers → Held
@@ -84,18 +88,18 @@ pub record Performs (calls : List ℕ) (run : Run) (said : List ℕ) (b : Buffer
 -- ---- a sheet is opened and a list of calls made
 
 -- the machine after the calls, where there are the lent places
-abbrev pub machineOf : Content → List ℕ → List ℕ → Buffers → Ticked
+abbrev pub machineOf : Task → List ℕ → List ℕ → Buffers → Ticked
 machineOf c calls said b = machine c (lengthsOf b) (decoded calls (callCount calls said))
 
 -- where the sheet is accepted and the space suffices: the record, the refusals, each lent place, and what they show
-pub record Ran (c : Content) (calls said : List ℕ) (b : Buffers) (a : Opened) (said′ : List ℕ) (b′ : Buffers) : Type 0 where
-  pub answer : a ≡ Opened.Open (runOf c (machineOf c calls said b .counter))
+pub record Ran (c : Task) (calls said : List ℕ) (b : Buffers) (a : Answer) (said′ : List ℕ) (b′ : Buffers) : Type 0 where
+  pub answer : a ≡ answered 0 (runOf c (machineOf c calls said b .counter))
   pub told : said′ ≡ machineOf c calls said b .said ++ drop (callCount calls said) said
   pub held : b′ ≡ image c (machineOf c calls said b .counter) (restOf c b)
   pub shown : Shown c (machineOf c calls said b .counter) (runOf c (machineOf c calls said b .counter)) b′
 
 -- what `replay` ensures
-pub record Replayed (sheet calls said : List ℕ) (b : Buffers) (a : Opened) (said′ : List ℕ) (b′ : Buffers) : Type 0 where
+pub record Replayed (sheet calls said : List ℕ) (b : Buffers) (a : Answer) (said′ : List ℕ) (b′ : Buffers) : Type 0 where
   -- refused: the number, and every lent place as it was
-  pub refuses : (k : ℕ) → opened sheet b .answer ≡ Opened.Refused k → (a ≡ Opened.Refused k) × (said′ ≡ said) × (b′ ≡ b)
-  pub runs : (c : Content) → parse sheet ≡ accepted c → short (needs c) (lengthsOf b) ≡ 0 → Ran c calls said b a said′ b′
+  pub refuses : (opened sheet b .answer .refused ≡ 0 → ⊥) → (a ≡ opened sheet b .answer) × (said′ ≡ said) × (b′ ≡ b)
+  pub runs : (c : Content) → parse sheet ≡ accepted c → short (needs (task c)) (lengthsOf b) ≡ 0 → Ran (task c) calls said b a said′ b′

@@ -11,11 +11,12 @@ use lib.Ieee.{Float}
 use lib.Seq.{drop-cons, set-at, append-snoc}
 use Rattle.format.specs.Content.{Content}
 use Rattle.format.specs.Sheet.{accepted, refused, parse}
+use Rattle.model.specs.Task.{task}
 use Rattle.model.specs.Machine.{return, fresh, needs, Lent}
 use Rattle.work.specs.declared.Run.{Run}
+use Rattle.work.specs.Record.{noRun}
 use Rattle.image.specs.declared.Answer.{Answer}
-use Rattle.image.specs.declared.Opened.{Opened}
-use Rattle.image.specs.Calls.{Buffers, buffers, fault, runAfter, buffersAfter, Does}
+use Rattle.image.specs.Calls.{Buffers, buffers, answered, fault, runAfter, buffersAfter, Does}
 use Rattle.image.specs.CallLaws.{lacking}
 use Rattle.image.specs.Image.{runOf, image, restOf}
 use Rattle.image.specs.Lists.{Held, front, behind, performed, performs}
@@ -25,18 +26,18 @@ use Rattle.image.specs.Replay.{opened, Opens, callOf, lentAt, decoded, T
 -- ---- opening
 
 module _ (sheet : List ℕ) (b : Buffers) where
-  pub opens-refused : (k : ℕ) → parse sheet ≡ refused k → Opens sheet b (Opened.Refused k) b
+  pub opens-refused : (a : Answer) (k : ℕ) → a ≡ answered k noRun → parse sheet ≡ refused k → Opens sheet b a b
   unfolding opened
-  opens-refused k e = record { answer = rw e; held = rw e }
+  opens-refused a k q e = record { answer = q ∙ rw e; held = rw e }
 
-  pub opens-short : (c : Content) → parse sheet ≡ accepted c → lacking (needs c) (lengthsOf b) ≡ true → Opens sheet b (Opened.Refused 8) b
+  pub opens-short : (a : Answer) → a ≡ answered 8 noRun → (c : Content) → parse sheet ≡ accepted c → lacking (needs (task c)) (lengthsOf b) ≡ true → Opens sheet b a b
   unfolding opened
-  opens-short c e t = record { answer = rw (e, t); held = rw (e, t) }
+  opens-short a q c e t = record { answer = q ∙ rw (e, t); held = rw (e, t) }
 
-  pub opens-open : (c : Content) (r : Run) (b′ : Buffers) → parse sheet ≡ accepted c → lacking (needs c) (lengthsOf b) ≡ false → r ≡ runOf c fresh → b′ ≡ image c fresh (restOf c b)
-      → Opens sheet b (Opened.Open r) b′
+  pub opens-open : (c : Content) (r : Run) (b′ : Buffers) → parse sheet ≡ accepted c → lacking (needs (task c)) (lengthsOf b) ≡ false → r ≡ runOf (task c) fresh → b′ ≡ image (task c) fresh (restOf (task c) b)
+      → Opens sheet b (answered 0 r) b′
   unfolding opened
-  opens-open c r b′ e t f g = record { answer = rw (e, t) (ap (λ (x : Run). Opened.Open x) f); held = rw (e, t) g }
+  opens-open c r b′ e t f g = record { answer = rw (e, t) (ap (answered 0) f); held = rw (e, t) g }
 
 -- ---- the calls
 

@@ -14,8 +14,8 @@ use Rattle.sparse.specs.Sparse.{Entry, entry}
 use Rattle.sparse.specs.Stored.{matrix}
 use Rattle.mesh.specs.Mesh.{free}
 use Rattle.laplace.specs.Matrix.{valueAt, Rising, Below}
-use Rattle.format.specs.Content.{Content, vertexCount, triangleCount, limitOf}
-use Rattle.model.specs.Space.{factor, roomOf}
+use Rattle.model.specs.Task.{Task, vertexCount, triangleCount}
+use Rattle.model.specs.Space.{factor}
 use Rattle.model.specs.Run.{State, at, matrixOf, lastPlace}
 use Rattle.model.specs.Machine.{Space, Counter, fresh, needs, Lent, Ticked, ticks}
 use Rattle.work.specs.declared.Run.{Run}
@@ -32,39 +32,39 @@ abbrev pub lengthsOf : Buffers → Space
 lengthsOf b = record { floats = length (b .floats); words = length (b .words); path = length (b .path) }
 
 -- the machine after a list of calls from place 0, where there are `all` places to lend
-abbrev pub machine : Content → Space → List Lent → Ticked
+abbrev pub machine : Task → Space → List Lent → Ticked
 machine c all ls = ticks (needs c) all (lastPlace c) ls (record { counter = fresh; said = [] })
 
 -- the state of the uninterrupted run where the machine stands
-abbrev pub stateAt : Content → Counter → State
+abbrev pub stateAt : Task → Counter → State
 stateAt c s = at c (s .place)
 
 -- ---- what is read from the record and the buffers
 
 -- all field values, all gradients, the norms and the points that are filled, and the places beyond them
-abbrev pub fieldIn : Content → Buffers → List Float
+abbrev pub fieldIn : Task → Buffers → List Float
 fieldIn c b = part (b .floats) (atX (vertexCount c) (triangleCount c)) (vertexCount c)
 
-abbrev pub gradientsIn : Content → Buffers → List Float
+abbrev pub gradientsIn : Task → Buffers → List Float
 gradientsIn c b = part (b .floats) (atGradients (vertexCount c) (triangleCount c)) (2 * triangleCount c)
 
-abbrev pub normsIn : Content → Run → Buffers → List Float
+abbrev pub normsIn : Task → Run → Buffers → List Float
 normsIn c run b = part (b .floats) (atNorms (vertexCount c) (triangleCount c)) (run .stand .norms)
 
-abbrev pub beyondNormsIn : Content → Run → Buffers → List Float
-beyondNormsIn c run b = part (b .floats) (atNorms (vertexCount c) (triangleCount c) + run .stand .norms) (limitOf c + 1 - run .stand .norms)
+abbrev pub beyondNormsIn : Task → Run → Buffers → List Float
+beyondNormsIn c run b = part (b .floats) (atNorms (vertexCount c) (triangleCount c) + run .stand .norms) (c .limit + 1 - run .stand .norms)
 
 abbrev pub pointsIn : Run → Buffers → List Float
 pointsIn run b = part (b .path) 0 (2 * run .stand .walk .points)
 
-abbrev pub beyondPointsIn : Content → Run → Buffers → List Float
-beyondPointsIn c run b = part (b .path) (2 * run .stand .walk .points) (2 * roomOf c - 2 * run .stand .walk .points)
+abbrev pub beyondPointsIn : Task → Run → Buffers → List Float
+beyondPointsIn c run b = part (b .path) (2 * run .stand .walk .points) (2 * c .room - 2 * run .stand .walk .points)
 
 -- the matrix in the work, and its row i
-abbrev pub matrixIn : Content → Buffers → List (List Entry)
+abbrev pub matrixIn : Task → Buffers → List (List Entry)
 matrixIn c b = matrix (b .words) (b .floats) (matrixAt (vertexCount c) (triangleCount c))
 
-abbrev pub rowIn : Content → Buffers → ℕ → List Entry
+abbrev pub rowIn : Task → Buffers → ℕ → List Entry
 rowIn c b i = getD (matrixIn c b) i []
 
 -- ---- the matrix that is 01's
@@ -80,11 +80,11 @@ pub record Symmetric (n : ℕ) (tags : List ℕ) (rows : List (List Entry)) : Ty
 
 -- ---- the statement
 
-pub record Shown (c : Content) (s : Counter) (run : Run) (b : Buffers) : Type 0 where
+pub record Shown (c : Task) (s : Counter) (run : Run) (b : Buffers) : Type 0 where
   -- place and passes are the machine's; place ≤ limit + 1 + 20 T
   pub place : run .stand .place ≡ s .place
   pub passes : run .passes ≡ s .passes
-  pub reach : run .stand .place ≤ limitOf c + 1 + factor * triangleCount c
+  pub reach : run .stand .place ≤ c .limit + 1 + factor * triangleCount c
   -- both ends
   pub fieldEnd : run .stand .end ≡ stateAt c s .field .end
   pub pathEnd : run .stand .walk .end ≡ stateAt c s .trail .walk .end
@@ -94,22 +94,22 @@ pub record Shown (c : Content) (s : Counter) (run : Run) (b : Buffers) : Type 0 
   -- the norms and how many, and +0 beyond them
   pub normCount : run .stand .norms ≡ length (stateAt c s .field .norms)
   pub norms : normsIn c run b ≡ stateAt c s .field .norms
-  pub beyondNorms : beyondNormsIn c run b ≡ replicate (limitOf c + 1 - run .stand .norms) plusZero
+  pub beyondNorms : beyondNormsIn c run b ≡ replicate (c .limit + 1 - run .stand .norms) plusZero
   -- the points and how many, and +0 beyond them
   pub pointCount : run .stand .walk .points ≡ stateAt c s .trail .walk .points
   pub points : pointsIn run b ≡ stateAt c s .trail .path
-  pub beyondPoints : beyondPointsIn c run b ≡ replicate (2 * roomOf c - 2 * run .stand .walk .points) plusZero
+  pub beyondPoints : beyondPointsIn c run b ≡ replicate (2 * c .room - 2 * run .stand .walk .points) plusZero
   -- the matrix in the work is 01's, equals its transpose, and has a lone 1 in each held row and column
   pub matrix : matrixIn c b ≡ matrixOf c
   pub symmetric : Symmetric (vertexCount c) (c .tags) (matrixIn c b)
 
 -- the same of a whole list of calls: where the machine comes to, and each call's refusal
-pub record ListShown (c : Content) (t : Ticked) (h : Held) : Type 0 where
+pub record ListShown (c : Task) (t : Ticked) (h : Held) : Type 0 where
   pub refusals : h .said ≡ t .said
   pub shown : Shown c (t .counter) (h .run) (h .all)
 
 -- What `field`, `norms`, `gradients` and `points` hand out of a record and the buffers is what the uninterrupted run has where the machine stands.
-pub record HandedOut (c : Content) (s : Counter) (run : Run) (b : Buffers) : Type 0 where
+pub record HandedOut (c : Task) (s : Counter) (run : Run) (b : Buffers) : Type 0 where
   pub field : fieldOf run (b .floats) ≡ stateAt c s .field .solve .x
   pub norms : normsOf run (b .floats) ≡ stateAt c s .field .norms
   pub gradients : gradientsOf run (b .floats) ≡ stateAt c s .trail .gradients

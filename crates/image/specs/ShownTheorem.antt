@@ -18,10 +18,9 @@ use Rattle.mesh.specs.Element.{flat}
 use Rattle.laplace.specs.Assembly.{Push, pushes, row, rows}
 use Rattle.laplace.specs.Matrix.{AllBelow, row-rising, row-below, pushes-below, symmetric, held-row, held-column}
 use Rattle.laplace.specs.Placed.{valuesOf, padded}
-use Rattle.format.specs.Content.{Content, vertexCount, triangleCount, limitOf}
-use Rattle.format.specs.Range.{InRange}
+use Rattle.model.specs.Task.{Task, vertexCount, triangleCount}
 use Rattle.model.specs.SizeLaws.{length-rows}
-use Rattle.model.specs.Space.{roomOf}
+use Rattle.model.specs.Sized.{Sized}
 use Rattle.model.specs.Run.{at, matrixOf, lastPlace}
 use Rattle.model.specs.Machine.{Counter, fresh, Lent}
 use Rattle.work.specs.Layout.{atX, atGradients, atNorms}
@@ -48,7 +47,7 @@ module _ {A : Type 0} (k : ℕ) (z : A) (l : List A) where
 
 -- ---- the parts of the buffers
 
-module _ (c : Content) (good : InRange c) (parts : Parts c) where
+module _ (c : Task) (good : Sized c) (parts : Parts c) where
   length-kept : (m : Option ℕ) → MarkIn m (lastPlace c) → length (keptVectors c m) ≡ 3 * vertexCount c
   length-kept none h = length-replicate (3 * vertexCount c) plusZero
   length-kept (some q) h =
@@ -64,7 +63,7 @@ module _ (c : Content) (good : InRange c) (parts : Parts c) where
     off-x : atX (vertexCount c) (triangleCount c) ≡ off segments 4
     unfolding off
     off-x =
-        let v : _ = good .pairs in
+        let v : _ = good .vertices in
         let b : _ = parts .right-long in
         let z : _ = length-replicate (vertexCount c) plusZero in
         let a : _ = length-padded (9 * triangleCount c + vertexCount c) plusZero (valuesOf (matrixOf c)) (parts .values-long) in
@@ -73,7 +72,7 @@ module _ (c : Content) (good : InRange c) (parts : Parts c) where
     off-gradients : atGradients (vertexCount c) (triangleCount c) ≡ off segments 9
     unfolding off
     off-gradients =
-        let v : _ = good .pairs in
+        let v : _ = good .vertices in
         let b : _ = parts .right-long in
         let z : _ = length-replicate (vertexCount c) plusZero in
         let a : _ = length-padded (9 * triangleCount c + vertexCount c) plusZero (valuesOf (matrixOf c)) (parts .values-long) in
@@ -106,19 +105,19 @@ module _ (c : Content) (good : InRange c) (parts : Parts c) where
     unfolding floatsOf
     norms-part =
         let h : _ = parts .norms-long (s .place) (w .place-in) in
-        let l : _ = length-padded (limitOf c + 1) plusZero norms h in
+        let l : _ = length-padded (c .limit + 1) plusZero norms h in
         let o : _ = off-norms in
-        part-within segments 10 0 (atNorms (vertexCount c) (triangleCount c)) (length norms) (omega arith) (omega arith) (omega arith) ∙ padded-filled (limitOf c + 1) plusZero norms
+        part-within segments 10 0 (atNorms (vertexCount c) (triangleCount c)) (length norms) (omega arith) (omega arith) (omega arith) ∙ padded-filled (c .limit + 1) plusZero norms
 
-    beyond-norms : part (floatsOf c (at c (s .place)) (s .mark) floats) (atNorms (vertexCount c) (triangleCount c) + length norms) (limitOf c + 1 - length norms)
-        ≡ replicate (limitOf c + 1 - length norms) plusZero
+    beyond-norms : part (floatsOf c (at c (s .place)) (s .mark) floats) (atNorms (vertexCount c) (triangleCount c) + length norms) (c .limit + 1 - length norms)
+        ≡ replicate (c .limit + 1 - length norms) plusZero
     unfolding floatsOf
     beyond-norms =
         let h : _ = parts .norms-long (s .place) (w .place-in) in
-        let l : _ = length-padded (limitOf c + 1) plusZero norms h in
+        let l : _ = length-padded (c .limit + 1) plusZero norms h in
         let o : _ = off-norms in
-        part-within segments 10 (length norms) (atNorms (vertexCount c) (triangleCount c) + length norms) (limitOf c + 1 - length norms) (omega arith) (omega arith) (omega arith)
-        ∙ padded-beyond (limitOf c + 1) plusZero norms
+        part-within segments 10 (length norms) (atNorms (vertexCount c) (triangleCount c) + length norms) (c .limit + 1 - length norms) (omega arith) (omega arith) (omega arith)
+        ∙ padded-beyond (c .limit + 1) plusZero norms
 
   module _ (p : ℕ) (rest : List Float) (h : p ≤ lastPlace c) where
     abbrev path : List Float
@@ -132,17 +131,17 @@ module _ (c : Content) (good : InRange c) (parts : Parts c) where
     points-part =
         let t : length path ≡ filled = parts .path-twice p h in
         let u : _ = parts .points-in p h in
-        let l : length (padded (2 * roomOf c) plusZero path) ≡ 2 * roomOf c = length-padded (2 * roomOf c) plusZero path (omega arith) in
-        rw (← t) (part-front (padded (2 * roomOf c) plusZero path) rest 0 (length path) (omega arith) ∙ padded-filled (2 * roomOf c) plusZero path)
+        let l : length (padded (2 * c .room) plusZero path) ≡ 2 * c .room = length-padded (2 * c .room) plusZero path (omega arith) in
+        rw (← t) (part-front (padded (2 * c .room) plusZero path) rest 0 (length path) (omega arith) ∙ padded-filled (2 * c .room) plusZero path)
 
-    beyond-points : part (pathOf c (at c p) rest) filled (2 * roomOf c - filled) ≡ replicate (2 * roomOf c - filled) plusZero
+    beyond-points : part (pathOf c (at c p) rest) filled (2 * c .room - filled) ≡ replicate (2 * c .room - filled) plusZero
     unfolding pathOf
     beyond-points =
         let t : length path ≡ filled = parts .path-twice p h in
         let u : _ = parts .points-in p h in
-        let l : length (padded (2 * roomOf c) plusZero path) ≡ 2 * roomOf c = length-padded (2 * roomOf c) plusZero path (omega arith) in
+        let l : length (padded (2 * c .room) plusZero path) ≡ 2 * c .room = length-padded (2 * c .room) plusZero path (omega arith) in
         rw (← t)
-        (part-front (padded (2 * roomOf c) plusZero path) rest (length path) (2 * roomOf c - length path) (omega arith) ∙ padded-beyond (2 * roomOf c) plusZero path)
+        (part-front (padded (2 * c .room) plusZero path) rest (length path) (2 * c .room - length path) (omega arith) ∙ padded-beyond (2 * c .room) plusZero path)
 
 -- ---- the matrix
 
@@ -163,7 +162,7 @@ unfolding AllBelow
 all-below n [] h = tt
 all-below n (t ∷ ts) h = (h 0 (omega arith), all-below n ts (λ i k. h (suc i) (omega arith)))
 
-pub matrix-symmetric : (c : Content) → InRange c → Symmetric (vertexCount c) (c .tags) (matrixOf c)
+pub matrix-symmetric : (c : Task) → Sized c → Symmetric (vertexCount c) (c .tags) (matrixOf c)
 unfolding matrixOf
 matrix-symmetric c good =
     let n = vertexCount c in
@@ -180,10 +179,10 @@ matrix-symmetric c good =
 -- ---- the statement
 
 -- as opening leaves it
-abbrev asOpened : Content → Rest → Held
+abbrev asOpened : Task → Rest → Held
 asOpened c rest = record { run = runOf c fresh; all = image c fresh rest; said = [] }
 
-module _ (c : Content) (good : InRange c) (facts : Facts c) (parts : Parts c) where
+module _ (c : Task) (good : Sized c) (facts : Facts c) (parts : Parts c) where
   -- an image shows it
   pub image-shown : (s : Counter) (rest : Rest) → Within (lastPlace c) s → Shown c s (runOf c s) (image c s rest)
   unfolding runOf image

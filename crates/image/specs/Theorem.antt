@@ -1,4 +1,4 @@
--- Demand 3 (document 01, Counter machine), with nothing left to assume: what every list of calls leaves, said of a content, of a sheet, and of `replay`. Assumes nothing.
+-- Demand 3 (document 01, Counter machine), with nothing left to assume: what every list of calls leaves, said of a task, of a sheet, and of `replay`. Assumes nothing.
 use Prim.Native.Nat.{ℕ, _+_, _*_, _≤_}
 use mathlib.Core.Path.{_≡_, refl, sym, ap, _∙_}
 use mathlib.Core.Bool.{Bool, true, false}
@@ -11,26 +11,27 @@ use borrow.Author.Tests.{eqb-true, le-leb}
 use Rattle.binary64.specs.Number.{pick}
 use Rattle.stretch.specs.Stretch.{part}
 use Rattle.format.specs.Bytes.{Bytes}
-use Rattle.format.specs.Content.{Content, vertexCount, triangleCount, limitOf, maxVertices, maxTriangles}
-use Rattle.format.specs.Range.{InRange}
+use Rattle.format.specs.Content.{Content, maxVertices, maxTriangles}
 use Rattle.format.specs.Sheet.{accepted, parse}
 use Rattle.format.specs.Theorems.{parse-sound}
-use Rattle.model.specs.Space.{roomOf}
+use Rattle.model.specs.Task.{Task, vertexCount, triangleCount, task}
+use Rattle.model.specs.Sized.{Sized}
+use Rattle.model.specs.SizeLaws.{sized}
 use Rattle.model.specs.Run.{State, at, lastPlace}
-use Rattle.model.specs.Machine.{Counter, fresh, needs, short, Lent}
+use Rattle.model.specs.Machine.{Space, Counter, fresh, needs, short, Lent}
 use Rattle.work.specs.declared.Run.{Run}
 use Rattle.work.specs.Layout.{atX, atGradients, atNorms}
-use Rattle.image.specs.declared.Opened.{Opened}
-use Rattle.image.specs.Calls.{Buffers}
+use Rattle.image.specs.declared.Answer.{Answer}
+use Rattle.image.specs.Calls.{Buffers, answered}
 use Rattle.image.specs.Image.{planOf, runOf, Rest, image, floatsUsed, restOf}
 use Rattle.image.specs.Instance.{facts, parts}
-use Rattle.image.specs.Lists.{Held, performs}
-use Rattle.image.specs.ListTheorem.{Within, list-theorem, machine-within}
+use Rattle.image.specs.Lists.{Held, front, performs}
+use Rattle.image.specs.ListTheorem.{Within, lentRest, front-image, list-theorem, machine-within}
 use Rattle.image.specs.Parts.{within, counted, fieldOf, normsOf, gradientsOf}
 use Rattle.image.specs.Points.{pointsOf}
-use Rattle.image.specs.Replay.{Opening, opening, opened, Opens, Performs, Replayed}
+use Rattle.image.specs.Replay.{opened, Opens, Performs, Replayed}
 use Rattle.image.specs.ReplayTheorem as Replays
-use Rattle.image.specs.ReplayTheorem.{as-long, opened-run, open-same, never}
+use Rattle.image.specs.ReplayTheorem.{not-short, as-long, opened-run, open-space}
 use Rattle.image.specs.Shown.{lengthsOf, machine, stateAt, Shown, ListShown, HandedOut}
 use Rattle.image.specs.ShownTheorem.{image-shown, list-shown}
 
@@ -38,9 +39,9 @@ use Rattle.image.specs.ShownTheorem.{image-shown, list-shown}
 abbrev pub begun : Run → Buffers → Held
 begun run b = record { run = run; all = b; said = [] }
 
--- ---- of a content in range, and buffers that suffice to open it
+-- ---- of a task in range, and buffers that suffice to open it
 
-module _ (c : Content) (good : InRange c) (b : Buffers) (space : short (needs c) (lengthsOf b) ≡ 0) (ls : List Lent) where
+module _ (c : Task) (good : Sized c) (b : Buffers) (space : short (needs c) (lengthsOf b) ≡ 0) (ls : List Lent) where
   -- record, buffers and refusals are the machine's and the uninterrupted run's, to every lent place
   pub lists-of-calls-image : performs ls (begun (runOf c fresh) (image c fresh (restOf c b)))
       ≡ record {
@@ -57,20 +58,20 @@ module _ (c : Content) (good : InRange c) (b : Buffers) (space : short (needs c)
 -- ---- what `field`, `norms`, `gradients` and `points` hand out
 
 -- a part within the floats, of a run whose counts a sheet may have
-counted-within : (c : Content) → InRange c → (floats : List Float) (at count : ℕ) → at + count ≤ length floats → counted (planOf c) (within floats at count) ≡ part floats at count
+counted-within : (c : Task) → Sized c → (floats : List Float) (at count : ℕ) → at + count ≤ length floats → counted (planOf c) (within floats at count) ≡ part floats at count
 unfolding within
 counted-within c good floats at count h =
-    rw (le-leb (vertexCount c) maxVertices (good .vertices), le-leb (triangleCount c) maxTriangles (good .triangles), le-leb (at + count) (length floats) h)
+    rw (le-leb (vertexCount c) maxVertices (good .vertices-most), le-leb (triangleCount c) maxTriangles (good .triangles-most), le-leb (at + count) (length floats) h)
 
 -- of an image
-image-handed : (c : Content) → InRange c → (s : Counter) (rest : Rest) → Within (lastPlace c) s → HandedOut c s (runOf c s) (image c s rest)
+image-handed : (c : Task) → Sized c → (s : Counter) (rest : Rest) → Within (lastPlace c) s → HandedOut c s (runOf c s) (image c s rest)
 unfolding fieldOf normsOf gradientsOf pointsOf part runOf image
 image-handed c good s rest w =
     let shows : Shown c s (runOf c s) (image c s rest) = image-shown c good (facts c good) (parts c good) s rest w in
     let f : length (image c s rest .floats) ≡ floatsUsed c + length (rest .floats) = facts c good .floats-long (s .place) (s .mark) (rest .floats) (w .place-in) (w .mark-in) in
-    let l : length (image c s rest .path) ≡ 2 * roomOf c + length (rest .path) = facts c good .path-long (s .place) (rest .path) (w .place-in) in
-    let m : length (at c (s .place) .field .norms) ≤ limitOf c + 1 = parts c good .norms-long (s .place) (w .place-in) in
-    let n : at c (s .place) .trail .walk .points ≤ roomOf c = parts c good .points-in (s .place) (w .place-in) in
+    let l : length (image c s rest .path) ≡ 2 * c .room + length (rest .path) = facts c good .path-long (s .place) (rest .path) (w .place-in) in
+    let m : length (at c (s .place) .field .norms) ≤ c .limit + 1 = parts c good .norms-long (s .place) (w .place-in) in
+    let n : at c (s .place) .trail .walk .points ≤ c .room = parts c good .points-in (s .place) (w .place-in) in
     record {
       field = counted-within c good (image c s rest .floats) (atX (vertexCount c) (triangleCount c)) (vertexCount c) (omega arith) ∙ shows .field;
       norms = counted-within c good (image c s rest .floats) (atNorms (vertexCount c) (triangleCount c)) (length (at c (s .place) .field .norms)) (omega arith) ∙ shows .norms;
@@ -78,7 +79,7 @@ image-handed c good s rest w =
       points = rw (le-leb (2 * at c (s .place) .trail .walk .points) (length (image c s rest .path)) (omega arith)) (shows .points);
     }
 
-module _ (c : Content) (good : InRange c) (b : Buffers) (space : short (needs c) (lengthsOf b) ≡ 0) (ls : List Lent) where
+module _ (c : Task) (good : Sized c) (b : Buffers) (space : short (needs c) (lengthsOf b) ≡ 0) (ls : List Lent) where
   -- the record and the buffers after the calls, and the run where the machine stands
   abbrev held : Held
   held = performs ls (begun (runOf c fresh) (image c fresh (restOf c b)))
@@ -89,6 +90,13 @@ module _ (c : Content) (good : InRange c) (b : Buffers) (space : short (needs c)
   pub handed-of-calls : HandedOut c (machine c (lengthsOf b) ls .counter) (held .run) (held .all)
   handed-of-calls =
       rw (lists-of-calls-image c good b space ls) (image-handed c good (machine c (lengthsOf b) ls .counter) (restOf c b) (machine-within c good (facts c good) (lengthsOf b) ls))
+
+  -- and of every front of the buffers that suffices
+  pub handed-of-front : (lent : Space) → short (needs c) lent ≡ 0 → HandedOut c (machine c (lengthsOf b) ls .counter) (held .run) (front lent (held .all))
+  handed-of-front lent e =
+      let s = machine c (lengthsOf b) ls .counter in
+      let w : Within (lastPlace c) s = machine-within c good (facts c good) (lengthsOf b) ls in
+      rw (lists-of-calls-image c good b space ls, front-image c (facts c good) s (restOf c b) lent w (not-short (needs c) lent e)) (image-handed c good s (lentRest c lent (restOf c b)) w)
 
   pub field-of-calls : fieldOf (held .run) (held .all .floats) ≡ reached .field .solve .x
   field-of-calls = handed-of-calls .field
@@ -104,31 +112,26 @@ module _ (c : Content) (good : InRange c) (b : Buffers) (space : short (needs c)
 
 -- ---- of a sheet, and the record and the buffers as opening left them
 
-open-space : (sheet : List ℕ) (b : Buffers) (c : Content) (run : Run) → parse sheet ≡ accepted c → opened sheet b .answer ≡ Opened.Open run → short (needs c) (lengthsOf b) ≡ 0
-unfolding opened
-open-space sheet b c run e o = go (eqb (short (needs c) (lengthsOf b)) 0) refl (rw e at o)
-  where
-    go : (t : Bool) → eqb (short (needs c) (lengthsOf b)) 0 ≡ t
-        → pick t (opening (Opened.Open (runOf c fresh)) (image c fresh (restOf c b))) (opening (Opened.Refused (short (needs c) (lengthsOf b))) b) .answer ≡ Opened.Open run → short (needs c) (lengthsOf b) ≡ 0
-    go true t f = eqb-true (short (needs c) (lengthsOf b)) 0 t
-    go false t f = absurd (never f)
+module _ (sheet : List ℕ) (h : Bytes sheet) (b : Buffers) (c : Content) (e : parse sheet ≡ accepted c) (o : opened sheet b .answer .refused ≡ 0) (ls : List Lent) where
+  -- the record and the buffers after the calls
+  abbrev after : Held
+  after = performs ls (begun (opened sheet b .answer .run) (opened sheet b .all))
 
-module _ (sheet : List ℕ) (h : Bytes sheet) (b : Buffers) (c : Content) (run : Run) (e : parse sheet ≡ accepted c) (o : opened sheet b .answer ≡ Opened.Open run) (ls : List Lent) where
   -- what opening left is the image at place 0
-  pub as-opened : begun run (opened sheet b .all) ≡ begun (runOf c fresh) (image c fresh (restOf c b))
-  as-opened =
-      let i : opened sheet b ≡ opening (Opened.Open (runOf c fresh)) (image c fresh (restOf c b)) = opened-run sheet b c e (open-space sheet b c run e o) in
-      let r : run ≡ runOf c fresh = open-same (sym o ∙ ap (λ (x : Opening). x .answer) i) in
-      rw (r, i)
+  pub as-opened : begun (opened sheet b .answer .run) (opened sheet b .all) ≡ begun (runOf (task c) fresh) (image (task c) fresh (restOf (task c) b))
+  as-opened = rw (opened-run sheet b c e (open-space sheet b c e o))
 
-  pub lists-from-sheet : ListShown c (machine c (lengthsOf b) ls) (performs ls (begun run (opened sheet b .all)))
-  lists-from-sheet = rw as-opened (lists-of-calls c (parse-sound sheet c h e) b (open-space sheet b c run e o) ls)
+  pub lists-from-sheet : ListShown (task c) (machine (task c) (lengthsOf b) ls) after
+  lists-from-sheet = rw as-opened (lists-of-calls (task c) (sized c (parse-sound sheet c h e)) b (open-space sheet b c e o) ls)
 
-  pub handed-from-sheet : HandedOut c (machine c (lengthsOf b) ls .counter) (performs ls (begun run (opened sheet b .all)) .run) (performs ls (begun run (opened sheet b .all)) .all)
-  handed-from-sheet = rw as-opened (handed-of-calls c (parse-sound sheet c h e) b (open-space sheet b c run e o) ls)
+  pub handed-from-sheet : HandedOut (task c) (machine (task c) (lengthsOf b) ls .counter) (after .run) (after .all)
+  handed-from-sheet = rw as-opened (handed-of-calls (task c) (sized c (parse-sound sheet c h e)) b (open-space sheet b c e o) ls)
+
+  pub handed-front-from-sheet : (lent : Space) → short (needs (task c)) lent ≡ 0 → HandedOut (task c) (machine (task c) (lengthsOf b) ls .counter) (after .run) (front lent (after .all))
+  handed-front-from-sheet lent k = rw as-opened (handed-of-front (task c) (sized c (parse-sound sheet c h e)) b (open-space sheet b c e o) ls lent k)
 
 -- ---- of `replay`, from what its two halves ensure
 
-pub replay-open : (sheet calls said : List ℕ) (b : Buffers) → Bytes sheet → (a : Opened) (b₁ : Buffers) (run run′ : Run) (said′ : List ℕ) (b′ : Buffers)
-    → Opens sheet b a b₁ → a ≡ Opened.Open run → Performs calls run said b₁ run′ said′ b′ → Replayed sheet calls said b (Opened.Open run′) said′ b′
-replay-open sheet calls said b h = Replays.replayed-open sheet calls said b facts parts (λ (c : Content) (e : parse sheet ≡ accepted c). parse-sound sheet c h e)
+pub replay-open : (sheet calls said : List ℕ) (b : Buffers) → Bytes sheet → (a : Answer) (b₁ : Buffers) (run′ : Run) (said′ : List ℕ) (b′ : Buffers)
+    → Opens sheet b a b₁ → a .refused ≡ 0 → Performs calls (a .run) said b₁ run′ said′ b′ → Replayed sheet calls said b (answered 0 run′) said′ b′
+replay-open sheet calls said b h = Replays.replayed-open sheet calls said b facts parts (λ (c : Content) (e : parse sheet ≡ accepted c). sized c (parse-sound sheet c h e))

@@ -1,3 +1,5 @@
+pub mod Task
+pub mod TaskLaws
 pub mod Space
 pub mod Run
 pub mod Machine

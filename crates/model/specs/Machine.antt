@@ -5,8 +5,8 @@ use mathlib.Core.List.{List, [], _∷_, _++_}
 use mathlib.Core.Option.{Option, none, some}
 use lib.Dec.{ltb, eqb}
 use Rattle.binary64.specs.Number.{pick}
-use Rattle.format.specs.Content.{Content, vertexCount, triangleCount, limitOf}
-use Rattle.model.specs.Space.{roomOf, floatSpace, wordSpace, pathSpace}
+use Rattle.model.specs.Task.{Task, vertexCount, triangleCount}
+use Rattle.model.specs.Space.{floatSpace, wordSpace, pathSpace}
 
 pub data Call : Type 0 where
   advance : ℕ → Call
@@ -32,11 +32,11 @@ fresh = record { place = 0; mark = none; passes = 0 }
 abbrev pub most : ℕ
 most = 18446744073709551615
 
-unfoldable pub needs : Content → Space
+unfoldable pub needs : Task → Space
 needs c = record {
-  floats = floatSpace (vertexCount c) (triangleCount c) (limitOf c);
+  floats = floatSpace (vertexCount c) (triangleCount c) (c .limit);
   words = wordSpace (vertexCount c) (triangleCount c);
-  path = pathSpace (roomOf c);
+  path = pathSpace (c .room);
 }
 
 abbrev pub short : Space → Space → ℕ

@@ -26,9 +26,9 @@ use Rattle.pde.specs.Start.{triangleContaining, pickStart}
 use Rattle.pde.specs.Crossing.{crossing}
 use Rattle.pde.specs.PathLaws.{gone-points}
 use Rattle.pde.specs.Path.{closes, ended, gone, adds, walked}
-use Rattle.format.specs.Content.{Content, triangleCount, limitOf, toleranceOf}
-use Rattle.model.specs.Space.{roomOf, stepOf, factor}
-use Rattle.model.specs.Run.{State, Field, Trail, state, rule, matrixOf, solved, solving, givenStart, set-out, startFrom, starting, crossed, crossingPass, nextBy, nextOf, passBy, pass, finished}
+use Rattle.model.specs.Task.{Task, triangleCount}
+use Rattle.model.specs.Space.{factor}
+use Rattle.model.specs.Run.{State, Field, Trail, state, rule, matrixOf, solved, solving, set-out, startFrom, starting, crossed, crossingPass, nextBy, nextOf, passBy, pass, finished}
 use Rattle.model.specs.SolvedPlace.{solvedPlace}
 
 -- ---- which pass is next
@@ -41,7 +41,7 @@ pub unfinished-end : (s : State) → finished s ≡ false → s .trail .walk .en
 unfinished-end s h = eqb-true (s .trail .walk .end) 0 (not-false (eqb (s .trail .walk .end) 0) h)
 
 -- what holds after a pass, by the four kinds of pass
-pub pass-elim : (P : State → Type 0) (c : Content) (s : State)
+pub pass-elim : (P : State → Type 0) (c : Task) (s : State)
     → (finished s ≡ true → P s)
     → (s .trail .walk .end ≡ 0 → s .field .end ≡ 0 → P (state (solving c (s .field)) (s .trail)))
     → (s .trail .walk .end ≡ 0 → s .field .end ≢ 0 → s .trail .walk .points ≡ 0 → P (state (s .field) (starting c (s .field .solve .x))))
@@ -56,11 +56,11 @@ pass-elim P c s over solve begin cross = go (eqb (s .trail .walk .end) 0) (eqb (
     go true false true p q r = begin (eqb-true _ _ p) (eqb-false _ _ q) (eqb-true _ _ r)
     go true false false p q r = cross (eqb-true _ _ p) (eqb-false _ _ q) (eqb-false _ _ r)
 
-pub pass-over : (c : Content) (s : State) → finished s ≡ true → pass c s ≡ s
+pub pass-over : (c : Task) (s : State) → finished s ≡ true → pass c s ≡ s
 unfolding pass nextOf passBy
 pass-over c s h = let e : eqb (s .trail .walk .end) 0 ≡ false = not-true (eqb (s .trail .walk .end) 0) h in rw e
 
-pub pass-solve : (c : Content) (s : State) → s .trail .walk .end ≡ 0 → s .field .end ≡ 0 → pass c s ≡ state (solving c (s .field)) (s .trail)
+pub pass-solve : (c : Task) (s : State) → s .trail .walk .end ≡ 0 → s .field .end ≡ 0 → pass c s ≡ state (solving c (s .field)) (s .trail)
 pass-solve c s e f =
     pass-elim (λ (t : State). t ≡ state (solving c (s .field)) (s .trail)) c s
     (λ (h : finished s ≡ true). absurd (finished-end s h e))
@@ -68,7 +68,7 @@ pass-solve c s e f =
     (λ (h : s .trail .walk .end ≡ 0) (k : s .field .end ≢ 0) (z : s .trail .walk .points ≡ 0). absurd (k f))
     (λ (h : s .trail .walk .end ≡ 0) (k : s .field .end ≢ 0) (z : s .trail .walk .points ≢ 0). absurd (k f))
 
-pub pass-begin : (c : Content) (s : State) → s .trail .walk .end ≡ 0 → s .field .end ≢ 0 → s .trail .walk .points ≡ 0
+pub pass-begin : (c : Task) (s : State) → s .trail .walk .end ≡ 0 → s .field .end ≢ 0 → s .trail .walk .points ≡ 0
     → pass c s ≡ state (s .field) (starting c (s .field .solve .x))
 pass-begin c s e f n =
     pass-elim (λ (t : State). t ≡ state (s .field) (starting c (s .field .solve .x))) c s
@@ -77,7 +77,7 @@ pass-begin c s e f n =
     (λ (h : s .trail .walk .end ≡ 0) (k : s .field .end ≢ 0) (z : s .trail .walk .points ≡ 0). refl)
     (λ (h : s .trail .walk .end ≡ 0) (k : s .field .end ≢ 0) (z : s .trail .walk .points ≢ 0). absurd (z n))
 
-pub pass-cross : (c : Content) (s : State) → s .trail .walk .end ≡ 0 → s .field .end ≢ 0 → s .trail .walk .points ≢ 0
+pub pass-cross : (c : Task) (s : State) → s .trail .walk .end ≡ 0 → s .field .end ≢ 0 → s .trail .walk .points ≢ 0
     → pass c s ≡ state (s .field) (crossingPass c (s .field .solve .x) (s .trail))
 pass-cross c s e f n =
     pass-elim (λ (t : State). t ≡ state (s .field) (crossingPass c (s .field .solve .x) (s .trail))) c s
@@ -99,9 +99,9 @@ solved-on limit f (moved next norm) h = go (leb limit (length (f .norms))) refl 
     go true e k = absurd (omega arith)
     go false e k = (length-append (f .norms) (norm ∷ []), leb-false limit (length (f .norms)) e)
 
-pub solving-on : (c : Content) (f : Field) → solving c f .end ≡ 0 → (length (solving c f .norms) ≡ length (f .norms) + 1) × (length (f .norms) < limitOf c)
+pub solving-on : (c : Task) (f : Field) → solving c f .end ≡ 0 → (length (solving c f .norms) ≡ length (f .norms) + 1) × (length (f .norms) < c .limit)
 unfolding solving
-solving-on c f h = solved-on (limitOf c) f (Solver.pass flat (matrixOf c) (toleranceOf c) (f .solve)) h
+solving-on c f h = solved-on (c .limit) f (Solver.pass flat (matrixOf c) (c .tolerance) (f .solve)) h
 
 -- one that has an end has it after as many passes as there were norms before it
 solved-off : (limit : ℕ) (f : Field) (t : Turn) → solved limit f t .end ≢ 0 → 0 < length (f .norms) → solvedPlace (solved limit f t) ≡ length (f .norms)
@@ -114,9 +114,9 @@ solved-off limit f (moved next norm) h k = go (leb limit (length (f .norms))) h
     go true e = omega (arith, length-append (f .norms) (norm ∷ []))
     go false e = absurd (e refl)
 
-pub solving-off : (c : Content) (f : Field) → solving c f .end ≢ 0 → 0 < length (f .norms) → solvedPlace (solving c f) ≡ length (f .norms)
+pub solving-off : (c : Task) (f : Field) → solving c f .end ≢ 0 → 0 < length (f .norms) → solvedPlace (solving c f) ≡ length (f .norms)
 unfolding solving
-solving-off c f h k = solved-off (limitOf c) f (Solver.pass flat (matrixOf c) (toleranceOf c) (f .solve)) h k
+solving-off c f h k = solved-off (c .limit) f (Solver.pass flat (matrixOf c) (c .tolerance) (f .solve)) h k
 
 -- the norms after a pass of solving begin with those before it
 solved-norms : (limit : ℕ) (f : Field) (t : Turn) → (more : List Float) × (solved limit f t .norms ≡ f .norms ++ more)
@@ -125,19 +125,19 @@ solved-norms limit f halted = ([], sym (append-nil (f .norms)))
 solved-norms limit f (reached x r norm) = (norm ∷ [], refl)
 solved-norms limit f (moved next norm) = (norm ∷ [], refl)
 
-pub solving-norms : (c : Content) (f : Field) → (more : List Float) × (solving c f .norms ≡ f .norms ++ more)
+pub solving-norms : (c : Task) (f : Field) → (more : List Float) × (solving c f .norms ≡ f .norms ++ more)
 unfolding solving
-solving-norms c f = solved-norms (limitOf c) f (Solver.pass flat (matrixOf c) (toleranceOf c) (f .solve))
+solving-norms c f = solved-norms (c .limit) f (Solver.pass flat (matrixOf c) (c .tolerance) (f .solve))
 
 -- ---- the start
 
 -- what holds of the trail after the start pass: with a start in one of the triangles, or ended with 8 or 9
-pub starting-elim : (P : Trail → Type 0) (c : Content) (us : List Float)
+pub starting-elim : (P : Trail → Type 0) (c : Task) (us : List Float)
     → ((p : Point) (t e : ℕ) → t < triangleCount c → e ≤ 3 → P (set-out (Start.At p t e) 0 (gradients flat (c .vertices) us (c .triangles))))
     → ((k : ℕ) → 0 < k → k ≤ 9 → P (set-out Start.Nothing k (gradients flat (c .vertices) us (c .triangles))))
     → P (starting c us)
 unfolding starting startFrom
-starting-elim P c us found lost = given (givenStart c)
+starting-elim P c us found lost = given (c .start)
   where
     from : (s : Start) (k : ℕ) → 0 < k → k ≤ 9 → StartIn (triangleCount c) s → P (set-out s k (gradients flat (c .vertices) us (c .triangles)))
     from (Start.At p t e) k z m h = found p t e (h .0) (h .1)
@@ -185,25 +185,25 @@ walked-points room last w x =
     (λ (q : Point) (n : ℕ) (b : Beyond) (e : x ≡ Crossing.Leaves q n b) (h : w .points + adds x ≤ room). omega (arith, gone-points last w q b (adds x)))
 
 -- a crossing that has no end is not the last, and counts
-pub crossing-on : (c : Content) (us : List Float) (t : Trail) → t .crossings < factor * triangleCount c → crossingPass c us t .walk .end ≡ 0
+pub crossing-on : (c : Task) (us : List Float) (t : Trail) → t .crossings < factor * triangleCount c → crossingPass c us t .walk .end ≡ 0
     → crossingPass c us t .crossings < factor * triangleCount c
 unfolding crossingPass crossed
 crossing-on c us t h = go (eqb (t .crossings + 1) (factor * triangleCount c)) refl
   where
     x : Crossing
-    x = crossing rule (c .vertices) (c .triangles) (c .neighbours) (triangleCount c) us (t .gradients) (stepOf c) (t .walk .position) (t .walk .triangle) (t .walk .edge)
+    x = crossing rule (c .vertices) (c .triangles) (c .neighbours) (triangleCount c) us (t .gradients) (c .step) (t .walk .position) (t .walk .triangle) (t .walk .edge)
 
-    go : (b : Bool) → eqb (t .crossings + 1) (factor * triangleCount c) ≡ b → walked (roomOf c) b (t .walk) x .end ≡ 0 → t .crossings + 1 < factor * triangleCount c
-    go true e k = absurd (walked-last (roomOf c) (t .walk) x k)
+    go : (b : Bool) → eqb (t .crossings + 1) (factor * triangleCount c) ≡ b → walked (c .room) b (t .walk) x .end ≡ 0 → t .crossings + 1 < factor * triangleCount c
+    go true e k = absurd (walked-last (c .room) (t .walk) x k)
     go false e k = let n : t .crossings + 1 ≢ factor * triangleCount c = eqb-false _ _ e in omega arith
 
-pub crossing-counts : (c : Content) (us : List Float) (t : Trail) → crossingPass c us t .crossings ≡ t .crossings + 1
+pub crossing-counts : (c : Task) (us : List Float) (t : Trail) → crossingPass c us t .crossings ≡ t .crossings + 1
 unfolding crossingPass crossed
 crossing-counts c us t = refl
 
-pub crossing-points : (c : Content) (us : List Float) (t : Trail) → t .walk .points ≤ crossingPass c us t .walk .points
+pub crossing-points : (c : Task) (us : List Float) (t : Trail) → t .walk .points ≤ crossingPass c us t .walk .points
 unfolding crossingPass crossed
-crossing-points c us t = walked-points (roomOf c) (eqb (t .crossings + 1) (factor * triangleCount c)) (t .walk) _
+crossing-points c us t = walked-points (c .room) (eqb (t .crossings + 1) (factor * triangleCount c)) (t .walk) _
 
 -- ---- how great an end is
 
@@ -217,9 +217,9 @@ solved-end limit f (moved next norm) = go (leb limit (length (f .norms)))
     go true = omega arith
     go false = omega arith
 
-pub solving-end : (c : Content) (f : Field) → solving c f .end ≤ 3
+pub solving-end : (c : Task) (f : Field) → solving c f .end ≤ 3
 unfolding solving
-solving-end c f = solved-end (limitOf c) f (Solver.pass flat (matrixOf c) (toleranceOf c) (f .solve))
+solving-end c f = solved-end (c .limit) f (Solver.pass flat (matrixOf c) (c .tolerance) (f .solve))
 
 gone-end : (last : Bool) (w : Walk) (q : Point) (b : Beyond) (k : ℕ) → gone last w q b k .end ≤ 9
 gone-end last w q Beyond.Border k = omega arith
@@ -231,15 +231,15 @@ gone-end last w q (Beyond.Into t e) k = go last
     go true = omega arith
     go false = omega arith
 
-pub crossing-end : (c : Content) (us : List Float) (t : Trail) → crossingPass c us t .walk .end ≤ 9
+pub crossing-end : (c : Task) (us : List Float) (t : Trail) → crossingPass c us t .walk .end ≤ 9
 unfolding crossingPass crossed
 crossing-end c us t =
-    walked-elim (λ (v : Walk). v .end ≤ 9) (roomOf c) last (t .walk) x
+    walked-elim (λ (v : Walk). v .end ≤ 9) (c .room) last (t .walk) x
     (λ (k : ℕ) (h : 0 < k) (m : k ≤ 7). omega arith)
-    (λ (q : Point) (n : ℕ) (b : Beyond) (e : x ≡ Crossing.Leaves q n b) (h : t .walk .points + adds x ≤ roomOf c). gone-end last (t .walk) q b (adds x))
+    (λ (q : Point) (n : ℕ) (b : Beyond) (e : x ≡ Crossing.Leaves q n b) (h : t .walk .points + adds x ≤ c .room). gone-end last (t .walk) q b (adds x))
   where
     last : Bool
     last = eqb (t .crossings + 1) (factor * triangleCount c)
 
     x : Crossing
-    x = crossing rule (c .vertices) (c .triangles) (c .neighbours) (triangleCount c) us (t .gradients) (stepOf c) (t .walk .position) (t .walk .triangle) (t .walk .edge)
+    x = crossing rule (c .vertices) (c .triangles) (c .neighbours) (triangleCount c) us (t .gradients) (c .step) (t .walk .position) (t .walk .triangle) (t .walk .edge)

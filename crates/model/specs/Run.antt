@@ -1,4 +1,4 @@
--- The uninterrupted run of a sheet (document 01, Passes and ends; Counter machine): what stands at place 0, one pass, and what stands after p passes. Definitions only. Assumes nothing.
+-- The uninterrupted run of a task (document 01, Passes and ends; Counter machine): what stands at place 0, one pass, and what stands after p passes. Definitions only. Assumes nothing.
 use Prim.Native.Nat.{ℕ, zero, suc, _+_, _*_}
 use mathlib.Core.Bool.{Bool, true, false, not}
 use mathlib.Core.Option.{Option, none, some}
@@ -12,7 +12,6 @@ use Rattle.binary64.specs.Root.{root}
 use Rattle.plane.specs.declared.Point.{Point}
 use Rattle.plane.specs.Plane.{point}
 use Rattle.sparse.specs.Sparse.{Entry}
-use Rattle.mesh.specs.Mesh.{heldValue}
 use Rattle.mesh.specs.Element.{flat}
 use Rattle.laplace.specs.Assembly.{pushes, rows, rightSide}
 use Rattle.conjugate.specs.Solver as Solver
@@ -25,9 +24,8 @@ use Rattle.pde.specs.declared.Crossing.{Crossing}
 use Rattle.pde.specs.Start.{noEdge, triangleContaining, pickStart}
 use Rattle.pde.specs.Crossing.{crossing}
 use Rattle.pde.specs.Path.{ended, walked, added}
-use Rattle.format.specs.declared.Real.{Real}
-use Rattle.format.specs.Content.{Content, vertexCount, triangleCount, limitOf, toleranceOf}
-use Rattle.model.specs.Space.{roomOf, stepOf, factor, farthest}
+use Rattle.model.specs.Task.{Task, vertexCount, triangleCount}
+use Rattle.model.specs.Space.{factor, farthest}
 
 -- ---- the thresholds of crossing: 1e-12, 0.99 and 0.2
 
@@ -57,11 +55,11 @@ abbrev pub state : Field → Trail → State
 state f t = record { field = f; trail = t }
 
 -- the matrix and the right side
-unfoldable pub matrixOf : Content → List (List Entry)
+unfoldable pub matrixOf : Task → List (List Entry)
 matrixOf c = rows (c .tags) (pushes flat (c .vertices) (c .triangles)) (vertexCount c)
 
-unfoldable pub rightOf : Content → List Float
-rightOf c = rightSide heldValue (c .tags) (pushes flat (c .vertices) (c .triangles)) (vertexCount c)
+unfoldable pub rightOf : Task → List Float
+rightOf c = rightSide (c .held) (c .tags) (pushes flat (c .vertices) (c .triangles)) (vertexCount c)
 
 -- ---- place 0
 
@@ -75,8 +73,8 @@ nowhere = record { position = point plusZero plusZero; triangle = 0; edge = noEd
 abbrev pub noTrail : ℕ → Trail
 noTrail triangles = record { gradients = replicate (2 * triangles) plusZero; walk = nowhere; path = []; crossings = 0 }
 
-unfoldable pub place0 : Content → State
-place0 c = state (firstField (limitOf c) (begun (matrixOf c) (rightOf c))) (noTrail (triangleCount c))
+unfoldable pub place0 : Task → State
+place0 c = state (firstField (c .limit) (begun (matrixOf c) (rightOf c))) (noTrail (triangleCount c))
 
 -- ---- a pass of solving
 
@@ -86,20 +84,11 @@ solved limit f halted = record { solve = f .solve; norms = f .norms; end = 2 }
 solved limit f (reached x r norm) = record { solve = record { x = x; r = r; p = f .solve .p; rs = f .solve .rs }; norms = f .norms ++ (norm ∷ []); end = 1 }
 solved limit f (moved next norm) = record { solve = next; norms = f .norms ++ (norm ∷ []); end = pick (leb limit (length (f .norms))) 3 0 }
 
-unfoldable pub solving : Content → Field → Field
+unfoldable pub solving : Task → Field → Field
 unfolding solved
-solving c f = solved (limitOf c) f (Solver.pass flat (matrixOf c) (toleranceOf c) (f .solve))
+solving c f = solved (c .limit) f (Solver.pass flat (matrixOf c) (c .tolerance) (f .solve))
 
 -- ---- the start pass
-
--- a given start
-abbrev pub bothGiven : Real → Real → Option Point
-bothGiven (Real.Given x) (Real.Given y) = some (point x y)
-bothGiven (Real.Given x) Real.Absent = none
-bothGiven Real.Absent y = none
-
-abbrev pub givenStart : Content → Option Point
-givenStart c = bothGiven (c .settings .x) (c .settings .y)
 
 -- the first point, or the end
 abbrev pub set-out : Start → ℕ → List Float → Trail
@@ -107,13 +96,13 @@ set-out (Start.At p t e) otherwise gs = record { gradients = gs; walk = record {
 set-out Start.Nothing otherwise gs = record { gradients = gs; walk = ended nowhere otherwise; path = []; crossings = 0 }
 
 -- Gradients are filled; a given start lies in the first triangle that accepts it (else end 8), otherwise `pickStart` (else end 9).
-unfoldable pub startFrom : Option Point → Content → List Float → List Float → Trail
+unfoldable pub startFrom : Option Point → Task → List Float → List Float → Trail
 startFrom (some p) c us gs = set-out (triangleContaining (c .vertices) (c .triangles) (triangleCount c) p) 8 gs
 startFrom none c us gs = set-out (pickStart (c .vertices) (c .triangles) (c .neighbours) (c .tags) (triangleCount c) us) 9 gs
 
-unfoldable pub starting : Content → List Float → Trail
+unfoldable pub starting : Task → List Float → Trail
 unfolding startFrom
-starting c us = startFrom (givenStart c) c us (gradients flat (c .vertices) us (c .triangles))
+starting c us = startFrom (c .start) c us (gradients flat (c .vertices) us (c .triangles))
 
 -- ---- a crossing
 
@@ -126,11 +115,11 @@ crossed room most t x = record {
   crossings = t .crossings + 1;
 }
 
-unfoldable pub crossingPass : Content → List Float → Trail → Trail
+unfoldable pub crossingPass : Task → List Float → Trail → Trail
 unfolding crossed
 crossingPass c us t =
-    crossed (roomOf c) (factor * triangleCount c) t
-    (crossing rule (c .vertices) (c .triangles) (c .neighbours) (triangleCount c) us (t .gradients) (stepOf c) (t .walk .position) (t .walk .triangle) (t .walk .edge))
+    crossed (c .room) (factor * triangleCount c) t
+    (crossing rule (c .vertices) (c .triangles) (c .neighbours) (triangleCount c) us (t .gradients) (c .step) (t .walk .position) (t .walk .triangle) (t .walk .edge))
 
 -- ---- one pass after another
 
@@ -150,19 +139,19 @@ nextBy true false false = cross
 unfoldable pub nextOf : State → Next
 nextOf s = nextBy (eqb (s .trail .walk .end) 0) (eqb (s .field .end) 0) (eqb (s .trail .walk .points) 0)
 
-unfoldable pub passBy : Next → Content → State → State
+unfoldable pub passBy : Next → Task → State → State
 unfolding solving starting crossingPass
 passBy over c s = s
 passBy solve c s = state (solving c (s .field)) (s .trail)
 passBy begin c s = state (s .field) (starting c (s .field .solve .x))
 passBy cross c s = state (s .field) (crossingPass c (s .field .solve .x) (s .trail))
 
-unfoldable pub pass : Content → State → State
+unfoldable pub pass : Task → State → State
 unfolding nextOf passBy
 pass c s = passBy (nextOf s) c s
 
 -- what stands after p passes
-unfoldable pub at : Content → ℕ → State
+unfoldable pub at : Task → ℕ → State
 unfolding place0 pass
 at c zero = place0 c
 at c (suc p) = pass c (at c p)
@@ -172,13 +161,13 @@ abbrev pub finished : State → Bool
 finished s = not (eqb (s .trail .walk .end) 0)
 
 -- The first place from p on, at most k further, whose state is finished; s is the state at p.
-unfoldable pub lastFrom : Content → ℕ → ℕ → Bool → State → ℕ
+unfoldable pub lastFrom : Task → ℕ → ℕ → Bool → State → ℕ
 unfolding pass
 lastFrom c zero p f s = p
 lastFrom c (suc k) p true s = p
 lastFrom c (suc k) p false s = lastFrom c k (suc p) (finished (pass c s)) (pass c s)
 
 -- E
-unfoldable pub lastPlace : Content → ℕ
+unfoldable pub lastPlace : Task → ℕ
 unfolding lastFrom place0
-lastPlace c = lastFrom c (farthest (triangleCount c) (limitOf c)) 0 (finished (place0 c)) (place0 c)
+lastPlace c = lastFrom c (farthest (triangleCount c) (c .limit)) 0 (finished (place0 c)) (place0 c)

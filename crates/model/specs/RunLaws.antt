@@ -1,4 +1,4 @@
--- Laws of the uninterrupted run, for every content: its last place E, the place at which solving ended, and what grows from place to place. Assumes nothing.
+-- Laws of the uninterrupted run, for every task: its last place E, the place at which solving ended, and what grows from place to place. Assumes nothing.
 use Prim.Native.Nat.{ℕ, zero, suc, _+_, _-_, _*_, _≤_, _<_, min}
 use native.Mathlib.Omega.{arith}
 use mathlib.Core.Path.{_≡_, refl, sym, ap, _∙_, subst}
@@ -14,8 +14,8 @@ use Rattle.binary64.specs.Constants.{plusZero}
 use Rattle.binary64.specs.Number.{pick}
 use Rattle.plane.specs.declared.Point.{Point}
 use Rattle.pde.specs.declared.Walk.{Walk}
-use Rattle.format.specs.Content.{Content, vertexCount, triangleCount, limitOf}
-use Rattle.model.specs.Space.{roomOf, factor, farthest}
+use Rattle.model.specs.Task.{Task, vertexCount, triangleCount}
+use Rattle.model.specs.Space.{factor, farthest}
 use Rattle.model.specs.Run.{State, Field, Trail, state, noTrail, matrixOf, rightOf, place0, starting, solving, crossingPass, pass, at, finished, lastFrom, lastPlace}
 use Rattle.model.specs.SolvedPlace.{solvedPlace}
 use Rattle.model.specs.PassLaws.{finished-end, unfinished-end, pass-elim, pass-over, pass-solve, pass-begin, pass-cross, solving-on, solving-off, solving-norms, starting-elim, crossing-on, crossing-counts, crossing-points, solving-end, crossing-end}
@@ -36,19 +36,19 @@ from P q b s (suc p) h = go (leb q p) refl (from P q b s p)
 
 -- ---- a finished place
 
-pub at-over : (c : Content) (p : ℕ) → finished (at c p) ≡ true → at c (suc p) ≡ at c p
+pub at-over : (c : Task) (p : ℕ) → finished (at c p) ≡ true → at c (suc p) ≡ at c p
 unfolding at
 at-over c p h = pass-over c (at c p) h
 
 -- every place from a finished one on is that one
-pub at-stays : (c : Content) (q p : ℕ) → q ≤ p → finished (at c q) ≡ true → at c p ≡ at c q
+pub at-stays : (c : Task) (q p : ℕ) → q ≤ p → finished (at c q) ≡ true → at c p ≡ at c q
 at-stays c q p h k =
     from (λ (r : ℕ). at c r ≡ at c q) q refl (λ (r : ℕ) (l : q ≤ r) (e : at c r ≡ at c q). at-over c r (rw e k) ∙ e) p h
 
-finished-stays : (c : Content) (q p : ℕ) → q ≤ p → finished (at c q) ≡ true → finished (at c p) ≡ true
+finished-stays : (c : Task) (q p : ℕ) → q ≤ p → finished (at c q) ≡ true → finished (at c p) ≡ true
 finished-stays c q p h k = rw (at-stays c q p h k) k
 
-unfinished-before : (c : Content) (q p : ℕ) → q ≤ p → finished (at c p) ≡ false → finished (at c q) ≡ false
+unfinished-before : (c : Task) (q p : ℕ) → q ≤ p → finished (at c p) ≡ false → finished (at c q) ≡ false
 unfinished-before c q p h k = go (finished (at c q)) refl
   where
     go : (b : Bool) → finished (at c q) ≡ b → b ≡ false
@@ -58,45 +58,45 @@ unfinished-before c q p h k = go (finished (at c q)) refl
 -- ---- solving
 
 -- what stands while the field has no end
-pub record Unsolved (c : Content) (p : ℕ) (s : State) : Type 0 where
+pub record Unsolved (c : Task) (p : ℕ) (s : State) : Type 0 where
   pub norms : length (s .field .norms) ≡ p + 1
-  pub below : p < limitOf c
+  pub below : p < c .limit
   pub trail : s .trail ≡ noTrail (triangleCount c)
 
-unsolved-first : (c : Content) → place0 c .field .end ≡ 0 → Unsolved c 0 (place0 c)
+unsolved-first : (c : Task) → place0 c .field .end ≡ 0 → Unsolved c 0 (place0 c)
 unfolding place0
-unsolved-first c h = go (eqb (limitOf c) 0) refl h
+unsolved-first c h = go (eqb (c .limit) 0) refl h
   where
-    go : (b : Bool) → eqb (limitOf c) 0 ≡ b → pick {A = ℕ} b 3 0 ≡ 0 → Unsolved c 0 (place0 c)
+    go : (b : Bool) → eqb (c .limit) 0 ≡ b → pick {A = ℕ} b 3 0 ≡ 0 → Unsolved c 0 (place0 c)
     go true e k = absurd (omega arith)
-    go false e k = let z : limitOf c ≢ 0 = eqb-false (limitOf c) 0 e in record { norms = refl; below = omega arith; trail = refl }
+    go false e k = let z : c .limit ≢ 0 = eqb-false (c .limit) 0 e in record { norms = refl; below = omega arith; trail = refl }
 
-unsolved-next : (c : Content) (p : ℕ) (s : State) → (s .field .end ≡ 0 → Unsolved c p s) → pass c s .field .end ≡ 0 → Unsolved c (suc p) (pass c s)
+unsolved-next : (c : Task) (p : ℕ) (s : State) → (s .field .end ≡ 0 → Unsolved c p s) → pass c s .field .end ≡ 0 → Unsolved c (suc p) (pass c s)
 unsolved-next c p s ih =
     pass-elim (λ (t : State). t .field .end ≡ 0 → Unsolved c (suc p) t) c s
     (λ (h : finished s ≡ true) (e : s .field .end ≡ 0). absurd (finished-end s h (ap (λ (t : Trail). t .walk .end) (ih e .trail))))
     (λ (h : s .trail .walk .end ≡ 0) (e : s .field .end ≡ 0) (k : solving c (s .field) .end ≡ 0).
-    let o : (length (solving c (s .field) .norms) ≡ length (s .field .norms) + 1) × (length (s .field .norms) < limitOf c) = solving-on c (s .field) k in
+    let o : (length (solving c (s .field) .norms) ≡ length (s .field .norms) + 1) × (length (s .field .norms) < c .limit) = solving-on c (s .field) k in
     let u : Unsolved c p s = ih e in
     record { norms = omega arith; below = omega arith; trail = u .trail })
     (λ (h : s .trail .walk .end ≡ 0) (e : s .field .end ≢ 0) (z : s .trail .walk .points ≡ 0) (k : s .field .end ≡ 0). absurd (e k))
     (λ (h : s .trail .walk .end ≡ 0) (e : s .field .end ≢ 0) (z : s .trail .walk .points ≢ 0) (k : s .field .end ≡ 0). absurd (e k))
 
-pub unsolved : (c : Content) (p : ℕ) → at c p .field .end ≡ 0 → Unsolved c p (at c p)
+pub unsolved : (c : Task) (p : ℕ) → at c p .field .end ≡ 0 → Unsolved c p (at c p)
 unfolding at
 unsolved c zero h = unsolved-first c h
 unsolved c (suc p) h = unsolved-next c p (at c p) (unsolved c p) h
 
-pub unsolved-trail : (c : Content) (p : ℕ) → at c p .field .end ≡ 0 → at c p .trail ≡ noTrail (triangleCount c)
+pub unsolved-trail : (c : Task) (p : ℕ) → at c p .field .end ≡ 0 → at c p .trail ≡ noTrail (triangleCount c)
 unsolved-trail c p h = unsolved c p h .trail
 
-pub unsolved-norms : (c : Content) (p : ℕ) → at c p .field .end ≡ 0 → length (at c p .field .norms) ≡ p + 1
+pub unsolved-norms : (c : Task) (p : ℕ) → at c p .field .end ≡ 0 → length (at c p .field .norms) ≡ p + 1
 unsolved-norms c p h = unsolved c p h .norms
 
 -- ---- solved
 
 -- a field that has its end stays
-field-next : (c : Content) (p : ℕ) → at c p .field .end ≢ 0 → at c (suc p) .field ≡ at c p .field
+field-next : (c : Task) (p : ℕ) → at c p .field .end ≢ 0 → at c (suc p) .field ≡ at c p .field
 unfolding at
 field-next c p n =
     pass-elim (λ (t : State). t .field ≡ at c p .field) c (at c p)
@@ -105,13 +105,13 @@ field-next c p n =
     (λ (h : at c p .trail .walk .end ≡ 0) (e : at c p .field .end ≢ 0) (z : at c p .trail .walk .points ≡ 0). refl)
     (λ (h : at c p .trail .walk .end ≡ 0) (e : at c p .field .end ≢ 0) (z : at c p .trail .walk .points ≢ 0). refl)
 
-field-stays : (c : Content) (q p : ℕ) → q ≤ p → at c q .field .end ≢ 0 → at c p .field ≡ at c q .field
+field-stays : (c : Task) (q p : ℕ) → q ≤ p → at c q .field .end ≢ 0 → at c p .field ≡ at c q .field
 field-stays c q p h n =
     from (λ (r : ℕ). at c r .field ≡ at c q .field) q refl
     (λ (r : ℕ) (l : q ≤ r) (e : at c r .field ≡ at c q .field). field-next c r (λ (z : at c r .field .end ≡ 0). n (sym (ap (λ (f : Field). f .end) e) ∙ z)) ∙ e) p h
 
 -- a place before one whose field has no end has none
-pub unsolved-before : (c : Content) (q p : ℕ) → q ≤ p → at c p .field .end ≡ 0 → at c q .field .end ≡ 0
+pub unsolved-before : (c : Task) (q p : ℕ) → q ≤ p → at c p .field .end ≡ 0 → at c q .field .end ≡ 0
 unsolved-before c q p h z = go (eqb (at c q .field .end) 0) refl
   where
     go : (b : Bool) → eqb (at c q .field .end) 0 ≡ b → at c q .field .end ≡ 0
@@ -119,32 +119,32 @@ unsolved-before c q p h z = go (eqb (at c q .field .end) 0) refl
     go false e = let n : at c q .field .end ≢ 0 = eqb-false _ _ e in absurd (n (sym (ap (λ (f : Field). f .end) (field-stays c q p h n)) ∙ z))
 
 -- a finished place has a field with its end
-pub finished-solved : (c : Content) (p : ℕ) → finished (at c p) ≡ true → at c p .field .end ≢ 0
+pub finished-solved : (c : Task) (p : ℕ) → finished (at c p) ≡ true → at c p .field .end ≢ 0
 finished-solved c p h z = finished-end (at c p) h (ap (λ (t : Trail). t .walk .end) (unsolved-trail c p z))
 
 -- f is the field that solving came to, at place s and not before it
-pub record Solved (c : Content) (s : ℕ) (f : Field) : Type 0 where
+pub record Solved (c : Task) (s : ℕ) (f : Field) : Type 0 where
   pub field : at c s .field ≡ f
   pub ended : f .end ≢ 0
   pub trail : at c s .trail ≡ noTrail (triangleCount c)
-  pub bound : s ≤ limitOf c
+  pub bound : s ≤ c .limit
   pub before : (q : ℕ) → q < s → at c q .field .end ≡ 0
 
 -- solving that has ended at p ended there, if the places before it have no end
-solved-here : (c : Content) (p : ℕ) → solvedPlace (at c p .field) ≡ p → at c p .field .end ≢ 0 → at c p .trail ≡ noTrail (triangleCount c) → p ≤ limitOf c
+solved-here : (c : Task) (p : ℕ) → solvedPlace (at c p .field) ≡ p → at c p .field .end ≢ 0 → at c p .trail ≡ noTrail (triangleCount c) → p ≤ c .limit
     → ((q : ℕ) → q < p → at c q .field .end ≡ 0) → (solvedPlace (at c p .field) ≤ p) × Solved c (solvedPlace (at c p .field)) (at c p .field)
 solved-here c p e n t b k =
     (omega arith, subst (λ (s : ℕ). Solved c s (at c p .field)) (sym e) (record { field = refl; ended = n; trail = t; bound = b; before = k }))
 
-first-place : (c : Content) → place0 c .field .end ≢ 0 → solvedPlace (place0 c .field) ≡ 0
+first-place : (c : Task) → place0 c .field .end ≢ 0 → solvedPlace (place0 c .field) ≡ 0
 unfolding place0
-first-place c n = go (eqb (limitOf c) 0) n
+first-place c n = go (eqb (c .limit) 0) n
   where
     go : (b : Bool) → pick {A = ℕ} b 3 0 ≢ 0 → 1 - 1 + pick (eqb (pick {A = ℕ} b 3 0) 2) 1 0 ≡ 0
     go true k = refl
     go false k = absurd (k refl)
 
-solved-next : (c : Content) (p : ℕ) → at c p .field .end ≡ 0 → at c (suc p) .field .end ≢ 0
+solved-next : (c : Task) (p : ℕ) → at c p .field .end ≡ 0 → at c (suc p) .field .end ≢ 0
     → (solvedPlace (at c (suc p) .field) ≤ suc p) × Solved c (solvedPlace (at c (suc p) .field)) (at c (suc p) .field)
 unfolding at
 solved-next c p z n =
@@ -155,7 +155,7 @@ solved-next c p z n =
     solved-here c (suc p) (ap solvedPlace f ∙ g ∙ omega arith) n (ap (λ (s : State). s .trail) e ∙ u .trail) (omega arith)
     (λ (q : ℕ) (h : q < suc p). unsolved-before c q p (omega arith) z)
 
-pub solved-at : (c : Content) (p : ℕ) → at c p .field .end ≢ 0 → (solvedPlace (at c p .field) ≤ p) × Solved c (solvedPlace (at c p .field)) (at c p .field)
+pub solved-at : (c : Task) (p : ℕ) → at c p .field .end ≢ 0 → (solvedPlace (at c p .field) ≤ p) × Solved c (solvedPlace (at c p .field)) (at c p .field)
 unfolding at
 solved-at c zero n = solved-here c 0 (first-place c n) n refl (omega arith) (λ (q : ℕ) (h : q < 0). absurd (omega arith))
 solved-at c (suc p) n = go (eqb (at c p .field .end) 0) refl (solved-at c p)
@@ -170,11 +170,11 @@ solved-at c (suc p) n = go (eqb (at c p .field .end) 0) refl (solved-at c p)
 
 -- ---- the solved place, for a place p whose field has its end
 
-module _ (c : Content) (p : ℕ) (n : at c p .field .end ≢ 0) where
+module _ (c : Task) (p : ℕ) (n : at c p .field .end ≢ 0) where
   pub solved-le : solvedPlace (at c p .field) ≤ p
   solved-le = solved-at c p n .0
 
-  pub solved-bound : solvedPlace (at c p .field) ≤ limitOf c
+  pub solved-bound : solvedPlace (at c p .field) ≤ c .limit
   solved-bound = solved-at c p n .1 .bound
 
   pub solved-field : (q : ℕ) → solvedPlace (at c p .field) ≤ q → at c q .field ≡ at c p .field
@@ -208,26 +208,26 @@ module _ (c : Content) (p : ℕ) (n : at c p .field .end ≢ 0) where
 -- ---- crossings
 
 -- what stands after the start pass while the path has no end; s is the place at which solving ended
-pub record Underway (c : Content) (s p : ℕ) (t : Trail) : Type 0 where
+pub record Underway (c : Task) (s p : ℕ) (t : Trail) : Type 0 where
   pub points : 0 < t .walk .points
   pub counted : t .crossings + suc s ≡ p
   pub below : t .crossings < factor * triangleCount c
 
 -- the start pass
-pub at-begun : (c : Content) (s : ℕ) (f : Field) → Solved c s f → at c (suc s) ≡ state f (starting c (f .solve .x))
+pub at-begun : (c : Task) (s : ℕ) (f : Field) → Solved c s f → at c (suc s) ≡ state f (starting c (f .solve .x))
 unfolding at
 at-begun c s f h =
     let w : at c s ≡ state f (noTrail (triangleCount c)) = λ i. state (h .field i) (h .trail i) in
     ap (pass c) w ∙ pass-begin c (state f (noTrail (triangleCount c))) refl (h .ended) refl
 
-begun-crossing : (c : Content) (s : ℕ) (us : List Float) → starting c us .walk .end ≡ 0 → Underway c s (suc s) (starting c us)
+begun-crossing : (c : Task) (s : ℕ) (us : List Float) → starting c us .walk .end ≡ 0 → Underway c s (suc s) (starting c us)
 begun-crossing c s us =
     starting-elim (λ (t : Trail). t .walk .end ≡ 0 → Underway c s (suc s) t) c us
     (λ (p : Point) (t e : ℕ) (h : t < triangleCount c) (k : e ≤ 3) (z : 0 ≡ 0). record { points = omega arith; counted = omega arith; below = omega arith })
     (λ (k : ℕ) (n : 0 < k) (m : k ≤ 9) (z : k ≡ 0). absurd (omega arith))
 
 -- a crossing more
-crossing-next : (c : Content) (s p : ℕ) (us : List Float) (t : Trail) → Underway c s p t → crossingPass c us t .walk .end ≡ 0 → Underway c s (suc p) (crossingPass c us t)
+crossing-next : (c : Task) (s p : ℕ) (us : List Float) (t : Trail) → Underway c s p t → crossingPass c us t .walk .end ≡ 0 → Underway c s (suc p) (crossingPass c us t)
 crossing-next c s p us t h z =
     record {
       points = omega (arith, crossing-points c us t);
@@ -235,7 +235,7 @@ crossing-next c s p us t h z =
       below = crossing-on c us t (h .below) z;
     }
 
-pub at-crossing : (c : Content) (s : ℕ) (f : Field) → Solved c s f → (p : ℕ) → suc s ≤ p → finished (at c p) ≡ false → Underway c s p (at c p .trail)
+pub at-crossing : (c : Task) (s : ℕ) (f : Field) → Solved c s f → (p : ℕ) → suc s ≤ p → finished (at c p) ≡ false → Underway c s p (at c p .trail)
 unfolding at
 at-crossing c s f h = from (λ (p : ℕ). finished (at c p) ≡ false → Underway c s p (at c p .trail)) (suc s) base next
   where
@@ -255,7 +255,7 @@ at-crossing c s f h = from (λ (p : ℕ). finished (at c p) ≡ false → Underw
         subst (λ (t : Trail). t .walk .end ≡ 0 → Underway c s (suc r) t) (sym q) (crossing-next c s r (at c r .field .solve .x) (at c r .trail) w) (unfinished-end (at c (suc r)) e)
 
 -- the gradients stay what the start pass made them
-pub gradients-stay : (c : Content) (s : ℕ) (f : Field) → Solved c s f → (p : ℕ) → suc s ≤ p → at c p .trail .gradients ≡ at c (suc s) .trail .gradients
+pub gradients-stay : (c : Task) (s : ℕ) (f : Field) → Solved c s f → (p : ℕ) → suc s ≤ p → at c p .trail .gradients ≡ at c (suc s) .trail .gradients
 unfolding at
 gradients-stay c s f h = from (λ (p : ℕ). at c p .trail .gradients ≡ at c (suc s) .trail .gradients) (suc s) refl next
   where
@@ -270,14 +270,14 @@ gradients-stay c s f h = from (λ (p : ℕ). at c p .trail .gradients ≡ at c (
         (λ (e : at c r .trail .walk .end ≡ 0) (n : at c r .field .end ≢ 0) (z : at c r .trail .walk .points ≢ 0). crossing-gradients c (at c r .field .solve .x) (at c r .trail) ∙ ih)
 
 -- while the path has points and no end, a crossing is left
-pub crossings-left : (c : Content) (p : ℕ) → at c p .trail .walk .points ≢ 0 → at c p .trail .walk .end ≡ 0 → at c p .trail .crossings < factor * triangleCount c
+pub crossings-left : (c : Task) (p : ℕ) → at c p .trail .walk .points ≢ 0 → at c p .trail .walk .end ≡ 0 → at c p .trail .crossings < factor * triangleCount c
 crossings-left c p k z = at-crossing c (solvedPlace (at c p .field)) (at c p .field) (solved-at c p n .1) p (solved-lt c p n k) (ap not (eq-eqb _ 0 z)) .below
   where
     n : at c p .field .end ≢ 0
     n e = k (ap (λ (t : Trail). t .walk .points) (unsolved-trail c p e))
 
 -- no more crossings are made than there may be
-pub crossings-bound : (c : Content) (p : ℕ) → at c p .trail .crossings ≤ factor * triangleCount c
+pub crossings-bound : (c : Task) (p : ℕ) → at c p .trail .crossings ≤ factor * triangleCount c
 unfolding at place0
 crossings-bound c zero = omega arith
 crossings-bound c (suc p) =
@@ -293,36 +293,36 @@ crossings-bound c (suc p) =
 
 -- ---- the last place
 
-far-solved : (c : Content) → at c (limitOf c) .field .end ≢ 0
-far-solved c z = let u : Unsolved c (limitOf c) (at c (limitOf c)) = unsolved c (limitOf c) z in omega arith
+far-solved : (c : Task) → at c (c .limit) .field .end ≢ 0
+far-solved c z = let u : Unsolved c (c .limit) (at c (c .limit)) = unsolved c (c .limit) z in omega arith
 
-far-finished : (c : Content) → finished (at c (farthest (triangleCount c) (limitOf c))) ≡ true
-far-finished c = go (finished (at c (farthest (triangleCount c) (limitOf c)))) refl
+far-finished : (c : Task) → finished (at c (farthest (triangleCount c) (c .limit))) ≡ true
+far-finished c = go (finished (at c (farthest (triangleCount c) (c .limit)))) refl
   where
     s : ℕ
-    s = solvedPlace (at c (limitOf c) .field)
+    s = solvedPlace (at c (c .limit) .field)
 
     far : ℕ
-    far = farthest (triangleCount c) (limitOf c)
+    far = farthest (triangleCount c) (c .limit)
 
-    go : (b : Bool) → finished (at c (farthest (triangleCount c) (limitOf c))) ≡ b → b ≡ true
+    go : (b : Bool) → finished (at c (farthest (triangleCount c) (c .limit))) ≡ b → b ≡ true
     go true e = refl
     go false e =
-        let h : (s ≤ limitOf c) × Solved c s (at c (limitOf c) .field) = solved-at c (limitOf c) (far-solved c) in
-        let k : Underway c s far (at c far .trail) = at-crossing c s (at c (limitOf c) .field) (h .1) far (omega arith) e in
+        let h : (s ≤ c .limit) × Solved c s (at c (c .limit) .field) = solved-at c (c .limit) (far-solved c) in
+        let k : Underway c s far (at c far .trail) = at-crossing c s (at c (c .limit) .field) (h .1) far (omega arith) e in
         absurd (omega arith)
 
 -- r is the first finished place of the k + 1 from p on, or p + k
-record First (c : Content) (k p r : ℕ) : Type 0 where
+record First (c : Task) (k p r : ℕ) : Type 0 where
   low : p ≤ r
   high : r ≤ p + k
   done : finished (at c (p + k)) ≡ true → finished (at c r) ≡ true
   before : (q : ℕ) → p ≤ q → q < r → finished (at c q) ≡ false
 
-moved : (c : Content) (p q : ℕ) → p ≡ q → finished (at c p) ≡ true → finished (at c q) ≡ true
+moved : (c : Task) (p q : ℕ) → p ≡ q → finished (at c p) ≡ true → finished (at c q) ≡ true
 moved c p q e h = subst (λ (r : ℕ). finished (at c r) ≡ true) e h
 
-first-from : (c : Content) (k p : ℕ) → First c k p (lastFrom c k p (finished (at c p)) (at c p))
+first-from : (c : Task) (k p : ℕ) → First c k p (lastFrom c k p (finished (at c p)) (at c p))
 unfolding lastFrom at
 first-from c zero p = record { low = omega arith; high = omega arith; done = λ (e : finished (at c (p + 0)) ≡ true). moved c (p + 0) p (omega arith) e; before = λ (q : ℕ) (l : p ≤ q) (h : q < p). absurd (omega arith) }
 first-from c (suc k) p = go (finished (at c p)) refl (first-from c k (suc p))
@@ -341,20 +341,20 @@ first-from c (suc k) p = go (finished (at c p)) refl (first-from c k (suc p))
         later q l true t g = g (leb-true (suc p) q t)
         later q l false t g = let m : p ≡ q = omega (arith, leb-false (suc p) q t) in subst (λ (r : ℕ). finished (at c r) ≡ false) m e
 
-first-last : (c : Content) → First c (farthest (triangleCount c) (limitOf c)) 0 (lastPlace c)
+first-last : (c : Task) → First c (farthest (triangleCount c) (c .limit)) 0 (lastPlace c)
 unfolding lastPlace at
-first-last c = first-from c (farthest (triangleCount c) (limitOf c)) 0
+first-last c = first-from c (farthest (triangleCount c) (c .limit)) 0
 
-pub last-bound : (c : Content) → lastPlace c ≤ farthest (triangleCount c) (limitOf c)
+pub last-bound : (c : Task) → lastPlace c ≤ farthest (triangleCount c) (c .limit)
 last-bound c = omega (arith, first-last c .high)
 
-pub last-first : (c : Content) (p : ℕ) → p < lastPlace c → finished (at c p) ≡ false
+pub last-first : (c : Task) (p : ℕ) → p < lastPlace c → finished (at c p) ≡ false
 last-first c p h = first-last c .before p (omega arith) h
 
-pub last-finished : (c : Content) → finished (at c (lastPlace c)) ≡ true
-last-finished c = first-last c .done (moved c (farthest (triangleCount c) (limitOf c)) (0 + farthest (triangleCount c) (limitOf c)) (omega arith) (far-finished c))
+pub last-finished : (c : Task) → finished (at c (lastPlace c)) ≡ true
+last-finished c = first-last c .done (moved c (farthest (triangleCount c) (c .limit)) (0 + farthest (triangleCount c) (c .limit)) (omega arith) (far-finished c))
 
-pub at-min : (c : Content) (p : ℕ) → at c p ≡ at c (min p (lastPlace c))
+pub at-min : (c : Task) (p : ℕ) → at c p ≡ at c (min p (lastPlace c))
 at-min c p = go (leb p (lastPlace c)) refl
   where
     go : (b : Bool) → leb p (lastPlace c) ≡ b → at c p ≡ at c (min p (lastPlace c))
@@ -365,7 +365,7 @@ at-min c p = go (leb p (lastPlace c)) refl
         at-stays c (lastPlace c) p (omega arith) (last-finished c) ∙ ap (at c) m
 
 -- from the start pass to the last place, each place is a crossing more
-pub crossings-counted : (c : Content) (p : ℕ) (n : at c p .field .end ≢ 0) → solvedPlace (at c p .field) < p → p ≤ lastPlace c
+pub crossings-counted : (c : Task) (p : ℕ) (n : at c p .field .end ≢ 0) → solvedPlace (at c p .field) < p → p ≤ lastPlace c
     → at c p .trail .crossings + suc (solvedPlace (at c p .field)) ≡ p
 unfolding at
 crossings-counted c p n h = from (λ (r : ℕ). r ≤ lastPlace c → at c r .trail .crossings + suc s ≡ r) (suc s) base next p h
@@ -404,7 +404,7 @@ begins-more a b more h =
     h ∙ sym (take-append-le (length a) b more l)
 
 -- every norm stays
-norms-next : (c : Content) (p : ℕ) → (more : List Float) × (at c (suc p) .field .norms ≡ at c p .field .norms ++ more)
+norms-next : (c : Task) (p : ℕ) → (more : List Float) × (at c (suc p) .field .norms ≡ at c p .field .norms ++ more)
 unfolding at
 norms-next c p =
     pass-elim (λ (t : State). (more : List Float) × (t .field .norms ≡ at c p .field .norms ++ more)) c (at c p)
@@ -416,31 +416,31 @@ norms-next c p =
     same : (more : List Float) × (at c p .field .norms ≡ at c p .field .norms ++ more)
     same = ([], sym (append-nil (at c p .field .norms)))
 
-pub norms-grow : (c : Content) (q p : ℕ) → q ≤ p → at c q .field .norms ≡ take (length (at c q .field .norms)) (at c p .field .norms)
+pub norms-grow : (c : Task) (q p : ℕ) → q ≤ p → at c q .field .norms ≡ take (length (at c q .field .norms)) (at c p .field .norms)
 norms-grow c q p h =
     from (λ (r : ℕ). Begins (at c q .field .norms) (at c r .field .norms)) q (sym (take-length (at c q .field .norms)))
     (λ (r : ℕ) (l : q ≤ r) (b : Begins (at c q .field .norms) (at c r .field .norms)).
     rw (norms-next c r .1) (begins-more (at c q .field .norms) (at c r .field .norms) (norms-next c r .0) b)) p h
 
 -- there is always one, and never more than the limit and one, nor than the limit while the field has no end
-pub norms-some : (c : Content) (p : ℕ) → 1 ≤ length (at c p .field .norms)
+pub norms-some : (c : Task) (p : ℕ) → 1 ≤ length (at c p .field .norms)
 unfolding at place0
 norms-some c p = omega (arith, ap length (norms-grow c 0 p (omega arith)), length-take 1 (at c p .field .norms))
 
-pub norms-below : (c : Content) (p : ℕ) → at c p .field .end ≡ 0 → length (at c p .field .norms) ≤ limitOf c
+pub norms-below : (c : Task) (p : ℕ) → at c p .field .end ≡ 0 → length (at c p .field .norms) ≤ c .limit
 norms-below c p z = let u : Unsolved c p (at c p) = unsolved c p z in omega arith
 
-pub norms-bound : (c : Content) (p : ℕ) → length (at c p .field .norms) ≤ limitOf c + 1
+pub norms-bound : (c : Task) (p : ℕ) → length (at c p .field .norms) ≤ c .limit + 1
 norms-bound c p = go (eqb (at c p .field .end) 0) refl
   where
-    go : (b : Bool) → eqb (at c p .field .end) 0 ≡ b → length (at c p .field .norms) ≤ limitOf c + 1
+    go : (b : Bool) → eqb (at c p .field .end) 0 ≡ b → length (at c p .field .norms) ≤ c .limit + 1
     go true e = let u : Unsolved c p (at c p) = unsolved c p (eqb-true _ _ e) in omega arith
     go false e = omega (arith, solved-bound c p (eqb-false _ _ e))
 
 -- ---- what holds at every place, by the kinds of pass
 
 -- what the trail of every place has: of none, kept by a start and by a crossing
-trail-ind : (c : Content) (P : Trail → Type 0) → P (noTrail (triangleCount c)) → ((us : List Float) → P (starting c us))
+trail-ind : (c : Task) (P : Trail → Type 0) → P (noTrail (triangleCount c)) → ((us : List Float) → P (starting c us))
     → ((us : List Float) (t : Trail) → 0 < t .walk .points → P t → P (crossingPass c us t)) → (p : ℕ) → P (at c p .trail)
 unfolding at place0
 trail-ind c P n b x zero = n
@@ -457,7 +457,7 @@ trail-ind c P n b x (suc p) = go (at c p) (trail-ind c P n b x p)
 -- ---- sizes
 
 -- x, r and p have n places
-pub vectors-sized : (c : Content) (p : ℕ) → Vectors (vertexCount c) (at c p .field .solve)
+pub vectors-sized : (c : Task) (p : ℕ) → Vectors (vertexCount c) (at c p .field .solve)
 unfolding at place0
 vectors-sized c zero = begun-vectors (matrixOf c) (rightOf c) (vertexCount c) (matrix-length c) (right-length c)
 vectors-sized c (suc p) = go (at c p) (vectors-sized c p)
@@ -470,7 +470,7 @@ vectors-sized c (suc p) = go (at c p) (vectors-sized c p)
         (λ (h : s .trail .walk .end ≡ 0) (e : s .field .end ≢ 0) (z : s .trail .walk .points ≡ 0). ih)
         (λ (h : s .trail .walk .end ≡ 0) (e : s .field .end ≢ 0) (z : s .trail .walk .points ≢ 0). ih)
 
-pub gradients-sized : (c : Content) (p : ℕ) → length (at c p .trail .gradients) ≡ 2 * triangleCount c
+pub gradients-sized : (c : Task) (p : ℕ) → length (at c p .trail .gradients) ≡ 2 * triangleCount c
 gradients-sized c =
     trail-ind c (λ (t : Trail). length (t .gradients) ≡ 2 * triangleCount c) (length-replicate (2 * triangleCount c) plusZero)
     (λ (us : List Float).
@@ -480,7 +480,7 @@ gradients-sized c =
     (λ (us : List Float) (t : Trail) (h : 0 < t .walk .points) (ih : length (t .gradients) ≡ 2 * triangleCount c). ap length (crossing-gradients c us t) ∙ ih)
 
 -- two numbers for each point
-pub path-sized : (c : Content) (p : ℕ) → length (at c p .trail .path) ≡ 2 * at c p .trail .walk .points
+pub path-sized : (c : Task) (p : ℕ) → length (at c p .trail .path) ≡ 2 * at c p .trail .walk .points
 path-sized c =
     trail-ind c (λ (t : Trail). length (t .path) ≡ 2 * t .walk .points) refl
     (λ (us : List Float).
@@ -489,14 +489,14 @@ path-sized c =
     (λ (k : ℕ) (n : 0 < k) (m : k ≤ 9). refl))
     (λ (us : List Float) (t : Trail) (h : 0 < t .walk .points) (ih : length (t .path) ≡ 2 * t .walk .points). crossing-path-length c us t ih)
 
-pub points-bound : (c : Content) → 1 ≤ roomOf c → (p : ℕ) → at c p .trail .walk .points ≤ roomOf c
+pub points-bound : (c : Task) → 1 ≤ c .room → (p : ℕ) → at c p .trail .walk .points ≤ c .room
 points-bound c r =
-    trail-ind c (λ (t : Trail). t .walk .points ≤ roomOf c) (omega arith)
+    trail-ind c (λ (t : Trail). t .walk .points ≤ c .room) (omega arith)
     (λ (us : List Float).
-    starting-elim (λ (t : Trail). t .walk .points ≤ roomOf c) c us
+    starting-elim (λ (t : Trail). t .walk .points ≤ c .room) c us
     (λ (q : Point) (t e : ℕ) (h : t < triangleCount c) (k : e ≤ 3). r)
     (λ (k : ℕ) (n : 0 < k) (m : k ≤ 9). omega arith))
-    (λ (us : List Float) (t : Trail) (h : 0 < t .walk .points) (ih : t .walk .points ≤ roomOf c). crossing-room c us t ih)
+    (λ (us : List Float) (t : Trail) (h : 0 < t .walk .points) (ih : t .walk .points ≤ c .room). crossing-room c us t ih)
 
 -- a path with points is in one of the triangles, which it entered by an edge or none; one without has triangle 0
 record Inside (T : ℕ) (w : Walk) : Type 0 where
@@ -504,7 +504,7 @@ record Inside (T : ℕ) (w : Walk) : Type 0 where
   zero-or-below : (w .triangle ≡ 0) ⊎ (w .triangle < T)
   edge : w .edge ≤ 3
 
-inside : (c : Content) → Sized c → (p : ℕ) → Inside (triangleCount c) (at c p .trail .walk)
+inside : (c : Task) → Sized c → (p : ℕ) → Inside (triangleCount c) (at c p .trail .walk)
 inside c s =
     trail-ind c (λ (t : Trail). Inside (triangleCount c) (t .walk)) (record { triangle = λ (z : 0 < 0). absurd (omega arith); zero-or-below = inl refl; edge = omega arith })
     (λ (us : List Float).
@@ -515,13 +515,13 @@ inside c s =
     let w : Stands (triangleCount c) (crossingPass c us t .walk) = crossing-walk c s us t (record { triangle-below = ih .triangle h; edge-most = ih .edge }) in
     record { triangle = λ (z : 0 < crossingPass c us t .walk .points). w .triangle-below; zero-or-below = inr (w .triangle-below); edge = w .edge-most })
 
-pub walk-triangle : (c : Content) → Sized c → (p : ℕ) → 0 < at c p .trail .walk .points → at c p .trail .walk .triangle < triangleCount c
+pub walk-triangle : (c : Task) → Sized c → (p : ℕ) → 0 < at c p .trail .walk .points → at c p .trail .walk .triangle < triangleCount c
 walk-triangle c s p h = inside c s p .triangle h
 
-pub walk-zero-or-below : (c : Content) → Sized c → (p : ℕ) → (at c p .trail .walk .triangle ≡ 0) ⊎ (at c p .trail .walk .triangle < triangleCount c)
+pub walk-zero-or-below : (c : Task) → Sized c → (p : ℕ) → (at c p .trail .walk .triangle ≡ 0) ⊎ (at c p .trail .walk .triangle < triangleCount c)
 walk-zero-or-below c s p = inside c s p .zero-or-below
 
-pub walk-edge : (c : Content) → Sized c → (p : ℕ) → at c p .trail .walk .edge ≤ 3
+pub walk-edge : (c : Task) → Sized c → (p : ℕ) → at c p .trail .walk .edge ≤ 3
 walk-edge c s p = inside c s p .edge
 
 -- every point stays
@@ -529,7 +529,7 @@ nil : (l : List Float) → length l ≡ 0 → l ≡ []
 nil [] h = refl
 nil (x ∷ xs) h = absurd (omega arith)
 
-path-next : (c : Content) (p : ℕ) → (more : List Float) × (at c (suc p) .trail .path ≡ at c p .trail .path ++ more)
+path-next : (c : Task) (p : ℕ) → (more : List Float) × (at c (suc p) .trail .path ≡ at c p .trail .path ++ more)
 unfolding at
 path-next c p =
     pass-elim (λ (t : State). (more : List Float) × (t .trail .path ≡ at c p .trail .path ++ more)) c (at c p)
@@ -542,7 +542,7 @@ path-next c p =
     same : (more : List Float) × (at c p .trail .path ≡ at c p .trail .path ++ more)
     same = ([], sym (append-nil (at c p .trail .path)))
 
-pub path-grows : (c : Content) (q p : ℕ) → q ≤ p → at c q .trail .path ≡ take (length (at c q .trail .path)) (at c p .trail .path)
+pub path-grows : (c : Task) (q p : ℕ) → q ≤ p → at c q .trail .path ≡ take (length (at c q .trail .path)) (at c p .trail .path)
 path-grows c q p h =
     from (λ (r : ℕ). Begins (at c q .trail .path) (at c r .trail .path)) q (sym (take-length (at c q .trail .path)))
     (λ (r : ℕ) (l : q ≤ r) (b : Begins (at c q .trail .path) (at c r .trail .path)).
@@ -550,9 +550,9 @@ path-grows c q p h =
 
 -- ---- ends
 
-pub field-end-bound : (c : Content) (p : ℕ) → at c p .field .end ≤ 3
+pub field-end-bound : (c : Task) (p : ℕ) → at c p .field .end ≤ 3
 unfolding at place0
-field-end-bound c zero = go (eqb (limitOf c) 0)
+field-end-bound c zero = go (eqb (c .limit) 0)
   where
     go : (b : Bool) → pick {A = ℕ} b 3 0 ≤ 3
     go true = omega arith
@@ -564,7 +564,7 @@ field-end-bound c (suc p) =
     (λ (h : at c p .trail .walk .end ≡ 0) (e : at c p .field .end ≢ 0) (z : at c p .trail .walk .points ≡ 0). field-end-bound c p)
     (λ (h : at c p .trail .walk .end ≡ 0) (e : at c p .field .end ≢ 0) (z : at c p .trail .walk .points ≢ 0). field-end-bound c p)
 
-pub path-end-bound : (c : Content) (p : ℕ) → at c p .trail .walk .end ≤ 9
+pub path-end-bound : (c : Task) (p : ℕ) → at c p .trail .walk .end ≤ 9
 path-end-bound c =
     trail-ind c (λ (t : Trail). t .walk .end ≤ 9) (omega arith)
     (λ (us : List Float).

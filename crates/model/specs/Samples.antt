@@ -12,6 +12,7 @@ use Rattle.format.specs.declared.Real.{Real}
 use Rattle.format.specs.declared.Settings.{Settings}
 use Rattle.format.specs.Content.{Content}
 use Rattle.format.specs.Sheet.{accepted, refused}
+use Rattle.model.specs.Task.{task}
 use Rattle.model.specs.Run.{at, lastPlace}
 use Rattle.model.specs.Machine.{Call, advance, back, mark, return, Space, Counter, fresh, needs, Lent, Ticked, ticks}
 use Rattle.model.specs.Shown.{Shown, shown, sheetRead}
@@ -128,9 +129,14 @@ unfolding shown
 s1-shown = refl
 
 -- the length of its path: 0.8, left to right from +0
-pub s1-length : toBits binary64 (lengthOf (at s1 (lastPlace s1) .trail .path)) ≡ 0x3fe9_9999_9999_999a
+pub s1-length : toBits binary64 (lengthOf (at (task s1) (lastPlace (task s1)) .trail .path)) ≡ 0x3fe9_9999_9999_999a
 unfolding shown lengthOf lengthFrom
 s1-length = refl
+
+-- the space that it needs: 12 · 3 + 12 + 1,000 + 32 floats, 8 · 3 + 32 + 32 words, 2 · 100 places of the path
+pub s1-needs : needs (task s1) ≡ record { floats = 1080; words = 88; path = 200 }
+unfolding shown needs
+s1-needs = refl
 
 -- its sheet is accepted and says what it was made of
 pub s1-read : sheetRead s1 ≡ accepted s1
@@ -194,12 +200,12 @@ s4-read = refl
 -- ---- S5: on S1's sheet, each call lent what is needed
 
 abbrev lent : Call → Lent
-lent call = record { call = call; space = needs s1 }
+lent call = record { call = call; space = needs (task s1) }
 
 abbrev pub s5 : List Lent
 s5 = lent (advance 10) ∷ lent (back 1) ∷ lent mark ∷ lent (advance 1) ∷ lent return ∷ []
 
-pub s5-ticked : ticks (needs s1) (needs s1) (lastPlace s1) s5 (record { counter = fresh; said = [] })
+pub s5-ticked : ticks (needs (task s1)) (needs (task s1)) (lastPlace (task s1)) s5 (record { counter = fresh; said = [] })
     ≡ record { counter = record { place = 2; mark = some 2; passes = 4 }; said = 0 ∷ 0 ∷ 0 ∷ 0 ∷ 0 ∷ [] }
 unfolding shown ticks needs
 s5-ticked = refl
@@ -208,7 +214,7 @@ s5-ticked = refl
 
 -- what one call comes to from a state, lent some space
 abbrev ticked : Call → Space → Counter → Ticked
-ticked call space s = ticks (needs s1) (needs s1) (lastPlace s1) (record { call = call; space = space } ∷ []) (record { counter = s; said = [] })
+ticked call space s = ticks (needs (task s1)) (needs (task s1)) (lastPlace (task s1)) (record { call = call; space = space } ∷ []) (record { counter = s; said = [] })
 
 -- the refusal's number, with the state as it was; 0 if the call is not refused
 abbrev said : ℕ → Counter → Ticked
@@ -224,13 +230,13 @@ full = 18446744073709551615
 
 -- a place too few of one buffer
 abbrev fewFloats : Space
-fewFloats = record { floats = needs s1 .floats - 1; words = needs s1 .words; path = needs s1 .path }
+fewFloats = record { floats = needs (task s1) .floats - 1; words = needs (task s1) .words; path = needs (task s1) .path }
 
 abbrev fewWords : Space
-fewWords = record { floats = needs s1 .floats; words = needs s1 .words - 1; path = needs s1 .path }
+fewWords = record { floats = needs (task s1) .floats; words = needs (task s1) .words - 1; path = needs (task s1) .path }
 
 abbrev fewPoints : Space
-fewPoints = record { floats = needs s1 .floats; words = needs s1 .words; path = needs s1 .path - 1 }
+fewPoints = record { floats = needs (task s1) .floats; words = needs (task s1) .words; path = needs (task s1) .path - 1 }
 
 -- 8 before 9, whichever buffer is short, and before 10
 pub return-short : ticked return fewFloats (unmarked 2 2) ≡ said 8 (unmarked 2 2)
@@ -249,31 +255,31 @@ pub advance-short : ticked (advance 1) fewFloats (unmarked 2 full) ≡ said 8 (u
 unfolding shown ticks needs
 advance-short = refl
 
-pub return-unmarked : ticked return (needs s1) (unmarked 2 2) ≡ said 9 (unmarked 2 2)
+pub return-unmarked : ticked return (needs (task s1)) (unmarked 2 2) ≡ said 9 (unmarked 2 2)
 unfolding shown ticks needs
 return-unmarked = refl
 
 -- an advance that gains a pass at 2^64 − 1
-pub advance-too-far : ticked (advance 1) (needs s1) (unmarked 2 full) ≡ said 10 (unmarked 2 full)
+pub advance-too-far : ticked (advance 1) (needs (task s1)) (unmarked 2 full) ≡ said 10 (unmarked 2 full)
 unfolding shown ticks needs
 advance-too-far = refl
 
 -- it gains three, and there is room for two
-pub advance-three : ticked (advance 4294967295) (needs s1) (unmarked 0 (full - 2)) ≡ said 10 (unmarked 0 (full - 2))
+pub advance-three : ticked (advance 4294967295) (needs (task s1)) (unmarked 0 (full - 2)) ≡ said 10 (unmarked 0 (full - 2))
 unfolding shown ticks needs
 advance-three = refl
 
 -- it gains the one that there is room for
-pub advance-one : ticked (advance 4294967295) (needs s1) (unmarked 2 (full - 1)) ≡ said 0 (unmarked 3 full)
+pub advance-one : ticked (advance 4294967295) (needs (task s1)) (unmarked 2 (full - 1)) ≡ said 0 (unmarked 3 full)
 unfolding shown ticks needs
 advance-one = refl
 
 -- it gains none: at the last place, and by 0
-pub advance-at-last : ticked (advance 1) (needs s1) (unmarked 3 full) ≡ said 0 (unmarked 3 full)
+pub advance-at-last : ticked (advance 1) (needs (task s1)) (unmarked 3 full) ≡ said 0 (unmarked 3 full)
 unfolding shown ticks needs
 advance-at-last = refl
 
-pub advance-by-none : ticked (advance 0) (needs s1) (unmarked 2 full) ≡ said 0 (unmarked 2 full)
+pub advance-by-none : ticked (advance 0) (needs (task s1)) (unmarked 2 full) ≡ said 0 (unmarked 2 full)
 unfolding shown ticks needs
 advance-by-none = refl
 
@@ -290,7 +296,7 @@ s6-read = refl
 -- ---- S8
 
 -- after the start pass, at place 2, the path from (1, 1) is in triangle 0
-pub s8-accepted : at (startAt one one) 2 .trail .walk ≡ record { position = point one one; triangle = 0; edge = 3; points = 1; end = 0 }
+pub s8-accepted : at (task (startAt one one)) 2 .trail .walk ≡ record { position = point one one; triangle = 0; edge = 3; points = 1; end = 0 }
 unfolding shown
 s8-accepted = refl
 

@@ -21,6 +21,7 @@ use Rattle.format.specs.Bytes.{number, bytes, numbers, allBytes}
 use Rattle.format.specs.Content.{Content}
 use Rattle.format.specs.Refusal.{each, finite, coordinate, positive, settingFault, present, missing}
 use Rattle.format.specs.Sheet.{Parsed, kindOf, valueOf, itemOf, settingOf, inTurn, adding, gathered, section, bytesOf, behind, contentOf, verticesFault, trianglesFault, neighboursFault, tagsFault, settingsFault, faultOf, parse}
+use Rattle.model.specs.Task.{taskOf, task}
 use Rattle.model.specs.Run.{State, matrixOf, rightOf, place0, solved, solving, startFrom, starting, crossed, crossingPass, nextOf, passBy, pass, at, lastFrom, lastPlace}
 
 pub record Shown : Type 0 where
@@ -48,8 +49,8 @@ shownOf p s = record {
 
 -- Whatever unfolds this unfolds every definition that the run computes with.
 unfoldable pub shown : Content → Shown
-unfolding zipWith ofBits toBits add sub mul div neg lt le eq ofInt absOf clampOf atLeast ceilCount root rootOf rootPattern wholeRoot minus dotOf lengthSquared signOf pointInTriangle rayLineIntersection barycentricWeights interpolated dotFrom dot rowFrom rowProduct matVec vertex corner neighbour tagOf free heldValue trianglePushes pushes insert inserted row rows allCoupled settled rightSide cgPass begun triangleGradient gradientOf gradients firstOf containedIn triangleContaining innerEdge innerEdgeOf firstInner leastFrom leastVertex centroidWith firstWith pickStart distance considered nearestOf namesBack entryEdge cutEdge cutTriangle cutMatch gradientAt magnitude direction valueIn entering entered unentered beyond crossingAlong crossing pieces partWay along between closing walked matrixOf rightOf place0 solved solving startFrom starting crossed crossingPass nextOf passBy pass at lastFrom lastPlace
-shown c = shownOf (lastPlace c) (at c (lastPlace c))
+unfolding zipWith ofBits toBits add sub mul div neg lt le eq ofInt absOf clampOf atLeast ceilCount root rootOf rootPattern wholeRoot minus dotOf lengthSquared signOf pointInTriangle rayLineIntersection barycentricWeights interpolated dotFrom dot rowFrom rowProduct matVec vertex corner neighbour tagOf free heldValue trianglePushes pushes insert inserted row rows allCoupled settled rightSide cgPass begun triangleGradient gradientOf gradients firstOf containedIn triangleContaining innerEdge innerEdgeOf firstInner leastFrom leastVertex centroidWith firstWith pickStart distance considered nearestOf namesBack entryEdge cutEdge cutTriangle cutMatch gradientAt magnitude direction valueIn entering entered unentered beyond crossingAlong crossing pieces partWay along between closing walked taskOf matrixOf rightOf place0 solved solving startFrom starting crossed crossingPass nextOf passBy pass at lastFrom lastPlace
+shown c = shownOf (lastPlace (task c)) (at (task c) (lastPlace (task c)))
 
 -- a content's sheet, read
 unfoldable pub sheetRead : Content → Parsed

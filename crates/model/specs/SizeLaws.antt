@@ -17,7 +17,7 @@ use Rattle.stretch.specs.Vec.{dot, plus, less}
 use Rattle.stretch.specs.VecLaws.{length-zip}
 use Rattle.sparse.specs.Sparse.{Entry, matVec}
 use Rattle.sparse.specs.ProductLaws.{length-matVec}
-use Rattle.mesh.specs.Mesh.{neighbour, noNeighbour, free, held, heldValue}
+use Rattle.mesh.specs.Mesh.{neighbour, noNeighbour, free, held}
 use Rattle.mesh.specs.Element.{flat}
 use Rattle.laplace.specs.Assembly.{Push, pushes, row, rows, lowered, coupled, allCoupled, settled, rightSide}
 use Rattle.conjugate.specs.Solver as Solver
@@ -25,31 +25,45 @@ use Rattle.conjugate.specs.Solver.{Solve, Turn, halted, reached, moved, begun}
 use Rattle.gradient.specs.Gradient.{gradients}
 use Rattle.pde.specs.Bounds.{Neighbouring, crossing-in}
 use Rattle.pde.specs.PathLaws.{Stands, walked-more, walked-most, walked-stands}
-use Rattle.format.specs.Content.{Content, vertexCount, triangleCount, limitOf, toleranceOf}
+use Rattle.format.specs.Content.{Content, maxLimit, maxRoom, defaultLimit, wholeOr}
 use Rattle.format.specs.Range.{InRange, OfWhole, Between}
 use Rattle.format.specs.declared.Whole.{Whole}
 use Rattle.format.specs.Refusal.{hasWhole}
-use Rattle.format.specs.Content.{wholeOr}
-use Rattle.model.specs.Space.{roomOf, stepOf, factor}
+use Rattle.model.specs.Task.{Task, vertexCount, triangleCount, taskOf, task}
+use Rattle.model.specs.Space.{factor}
 use Rattle.model.specs.Run.{Field, Trail, rule, matrixOf, rightOf, solved, solving, crossed, crossingPass}
 use Rattle.model.specs.Sized.{Sized, Vectors}
 
 -- ---- what every accepted sheet has
 
-room-given : (w : Whole) → hasWhole w ≡ true → OfWhole (Between 1 1000000) w → 1 ≤ wholeOr 0 w
+room-given : (w : Whole) → hasWhole w ≡ true → OfWhole (Between 1 maxRoom) w → Between 1 maxRoom (wholeOr 0 w)
 room-given Whole.Absent h k = absurd (false≢true h)
-room-given (Whole.Given v) h k = k .least
+room-given (Whole.Given v) h k = k
 
-pub sized : (c : Content) → InRange c → Sized c
-sized c h =
+limit-given : (default : ℕ) → default ≤ maxLimit → (w : Whole) → OfWhole (Between 0 maxLimit) w → wholeOr default w ≤ maxLimit
+limit-given default d Whole.Absent k = d
+limit-given default d (Whole.Given v) k = k .greatest
+
+pub sized-of : (default : ℕ) → default ≤ maxLimit → (c : Content) → InRange c → Sized (taskOf default c)
+unfolding taskOf
+sized-of default d c h =
+    let r : Between 1 maxRoom (wholeOr 0 (c .settings .room)) = room-given (c .settings .room) (h .roomGiven) (h .room) in
     record {
       vertices = h .pairs;
       triangles = h .triples;
       neighbours = h .edges;
       tags = h .tagged;
+      corners = h .corners;
       inRange = h .neighbours;
-      room = room-given (c .settings .room) (h .roomGiven) (h .room);
+      vertices-most = h .vertices;
+      triangles-most = h .triangles;
+      limit-most = limit-given default d (c .settings .limit) (h .limit);
+      room = r .least;
+      room-most = r .greatest;
     }
+
+pub sized : (c : Content) → InRange c → Sized (task c)
+sized c h = sized-of defaultLimit (omega arith) c h
 
 -- ---- the vectors
 
@@ -78,15 +92,15 @@ length-settled value [] rhs = refl
 length-settled value (t ∷ ts) [] = refl
 length-settled value (t ∷ ts) (y ∷ ys) = ap suc (length-settled value ts ys)
 
-pub matrix-length : (c : Content) → length (matrixOf c) ≡ vertexCount c
+pub matrix-length : (c : Task) → length (matrixOf c) ≡ vertexCount c
 unfolding matrixOf
 matrix-length c = length-rows (c .tags) (pushes flat (c .vertices) (c .triangles)) (vertexCount c)
 
-pub right-length : (c : Content) → length (rightOf c) ≡ vertexCount c
+pub right-length : (c : Task) → length (rightOf c) ≡ vertexCount c
 unfolding rightOf rightSide
 right-length c =
-    length-settled heldValue (c .tags) _
-    ∙ length-allCoupled heldValue (c .tags) (pushes flat (c .vertices) (c .triangles)) (replicate (vertexCount c) plusZero)
+    length-settled (c .held) (c .tags) _
+    ∙ length-allCoupled (c .held) (c .tags) (pushes flat (c .vertices) (c .triangles)) (replicate (vertexCount c) plusZero)
     ∙ length-replicate (vertexCount c) plusZero
 
 zipped : (f : Float → Float → Float) (us vs : List Float) (n : ℕ) → length us ≡ n → length vs ≡ n → length (zipWith f us vs) ≡ n
@@ -141,11 +155,11 @@ solved-vectors n limit f halted v h = v
 solved-vectors n limit f (reached x r norm) v h = record { x = h .0; r = h .1; p = v .p }
 solved-vectors n limit f (moved s norm) v h = h
 
-pub solving-vectors : (c : Content) (f : Field) → Vectors (vertexCount c) (f .solve) → Vectors (vertexCount c) (solving c f .solve)
+pub solving-vectors : (c : Task) (f : Field) → Vectors (vertexCount c) (f .solve) → Vectors (vertexCount c) (solving c f .solve)
 unfolding solving
 solving-vectors c f v =
-    solved-vectors (vertexCount c) (limitOf c) f (Solver.pass flat (matrixOf c) (toleranceOf c) (f .solve)) v
-    (handed (vertexCount c) flat (matrixOf c) (toleranceOf c) (f .solve) (matrix-length c) v)
+    solved-vectors (vertexCount c) (c .limit) f (Solver.pass flat (matrixOf c) (c .tolerance) (f .solve)) v
+    (handed (vertexCount c) flat (matrixOf c) (c .tolerance) (f .solve) (matrix-length c) v)
 
 -- ---- the gradients
 
@@ -158,33 +172,33 @@ gradients-length vs us (i ∷ j ∷ k ∷ ts) = omega (arith, gradients-length v
 
 -- ---- the points
 
-pub crossing-path-length : (c : Content) (us : List Float) (t : Trail) → length (t .path) ≡ 2 * t .walk .points → length (crossingPass c us t .path) ≡ 2 * crossingPass c us t .walk .points
+pub crossing-path-length : (c : Task) (us : List Float) (t : Trail) → length (t .path) ≡ 2 * t .walk .points → length (crossingPass c us t .path) ≡ 2 * crossingPass c us t .walk .points
 unfolding crossingPass crossed
-crossing-path-length c us t h = rw (length-append, h) (walked-more (roomOf c) (eqb (t .crossings + 1) (factor * triangleCount c)) (t .walk) _)
+crossing-path-length c us t h = rw (length-append, h) (walked-more (c .room) (eqb (t .crossings + 1) (factor * triangleCount c)) (t .walk) _)
 
-pub crossing-room : (c : Content) (us : List Float) (t : Trail) → t .walk .points ≤ roomOf c → crossingPass c us t .walk .points ≤ roomOf c
+pub crossing-room : (c : Task) (us : List Float) (t : Trail) → t .walk .points ≤ c .room → crossingPass c us t .walk .points ≤ c .room
 unfolding crossingPass crossed
-crossing-room c us t h = walked-most (roomOf c) (eqb (t .crossings + 1) (factor * triangleCount c)) (t .walk) _ h
+crossing-room c us t h = walked-most (c .room) (eqb (t .crossings + 1) (factor * triangleCount c)) (t .walk) _ h
 
 -- ---- the triangle that a crossing leads into
 
-neighbouring : (c : Content) → Sized c → Neighbouring (c .neighbours) (triangleCount c)
+neighbouring : (c : Task) → Sized c → Neighbouring (c .neighbours) (triangleCount c)
 unfolding neighbour
 neighbouring c s t e h k n =
     let next = getD (c .neighbours) (3 * t + e) 0 in
     ⊎-elim (λ (z : next ≡ noNeighbour). absurd (n z)) (λ (z : next < triangleCount c). z) (s .inRange (3 * t + e) (omega (arith, s .neighbours)))
 
-pub crossing-walk : (c : Content) → Sized c → (us : List Float) (t : Trail) → Stands (triangleCount c) (t .walk) → Stands (triangleCount c) (crossingPass c us t .walk)
+pub crossing-walk : (c : Task) → Sized c → (us : List Float) (t : Trail) → Stands (triangleCount c) (t .walk) → Stands (triangleCount c) (crossingPass c us t .walk)
 unfolding crossingPass crossed
 crossing-walk c s us t h =
-    walked-stands (roomOf c) (eqb (t .crossings + 1) (factor * triangleCount c)) (triangleCount c) (t .walk) _
-    (crossing-in rule (c .vertices) (c .triangles) (c .neighbours) (triangleCount c) us (neighbouring c s) (t .gradients) (stepOf c) (t .walk .position) (t .walk .triangle) (t .walk .edge) (h .triangle-below)) h
+    walked-stands (c .room) (eqb (t .crossings + 1) (factor * triangleCount c)) (triangleCount c) (t .walk) _
+    (crossing-in rule (c .vertices) (c .triangles) (c .neighbours) (triangleCount c) us (neighbouring c s) (t .gradients) (c .step) (t .walk .position) (t .walk .triangle) (t .walk .edge) (h .triangle-below)) h
 
 -- the path after a crossing begins with the path before it
-pub crossing-path : (c : Content) (us : List Float) (t : Trail) → (more : List Float) × (crossingPass c us t .path ≡ t .path ++ more)
+pub crossing-path : (c : Task) (us : List Float) (t : Trail) → (more : List Float) × (crossingPass c us t .path ≡ t .path ++ more)
 unfolding crossingPass crossed
 crossing-path c us t = (_, refl)
 
-pub crossing-gradients : (c : Content) (us : List Float) (t : Trail) → crossingPass c us t .gradients ≡ t .gradients
+pub crossing-gradients : (c : Task) (us : List Float) (t : Trail) → crossingPass c us t .gradients ≡ t .gradients
 unfolding crossingPass crossed
 crossing-gradients c us t = refl

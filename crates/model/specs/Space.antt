@@ -1,14 +1,5 @@
--- What a sheet's content says of a run: its counts, settings and document 01's space rule. Definitions only. Assumes nothing.
+-- How far a run can go, and document 01's space rule. Definitions only. Assumes nothing.
 use Prim.Native.Nat.{ℕ, _+_, _*_}
-use lib.Ieee.{Float}
-use Rattle.binary64.specs.Constants.{plusZero}
-use Rattle.format.specs.Content.{Content, wholeOr, realOr}
-
-abbrev pub roomOf : Content → ℕ
-roomOf c = wholeOr 0 (c .settings .room)
-
-abbrev pub stepOf : Content → Float
-stepOf c = realOr plusZero (c .settings .step)
 
 -- crossings for each triangle
 abbrev pub factor : ℕ

@@ -19,6 +19,7 @@ use Rattle.format.specs.Sheet.{contentOf}
 use Rattle.sheet.specs.declared.Header.{Header}
 use Rattle.sheet.specs.Answer.{headerOf}
 use Rattle.sheet.specs.ItemLaws.{vertex-item, corner-item, neighbour-item, tag-item}
+use Rattle.model.specs.Task.{taskOf, task}
 use Rattle.image.specs.Opening.{joined, vertexRead, numberRead, tagRead, verticesRead, numbersRead, tagsRead, Read, Loaded}
 
 module _ {A : Type 0} where
@@ -109,12 +110,13 @@ module _ (sheet : List ℕ) (h : Header) (read : Read sheet h) where
       (joined-is 1 (tagRead (drop (headerOf c .tags) sheet)) (c .tags) (vertexCount c) (omega (arith, read .good .tagged))
       (λ i k. ap (λ (x : ℕ). x ∷ []) (tag-item sheet c (read .is .parsed) i k) ∙ sym (one-of (c .tags) i 0 (omega (arith, read .good .tagged)))))
 
-  -- so what the four loops leave is the content's mesh
+  -- so what the four loops leave is the mesh of the content's task
   pub loaded : (floats floats′ : List Float) (words words₁ words₂ words′ : List ℕ) → floats′ ≡ splice floats 0 (verticesRead (from sheet (h .vertices)) (h .n))
       → words₁ ≡ splice words 0 (numbersRead (from sheet (h .triangles)) (3 * h .t))
       → words₂ ≡ splice words₁ (3 * h .t) (numbersRead (from sheet (h .neighbours)) (3 * h .t))
       → words′ ≡ splice words₂ (6 * h .t) (tagsRead (from sheet (h .tags)) (h .n))
-      → Loaded c floats words floats′ words′
+      → Loaded (task c) floats words floats′ words′
+  unfolding taskOf
   loaded floats floats′ words words₁ words₂ words′ ev e1 e2 e3 =
       let t : h .t ≡ triangleCount c = ap (λ (x : Header). x .t) (read .is .header) in
       record {

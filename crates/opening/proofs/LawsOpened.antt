@@ -14,7 +14,6 @@ use Rattle.binary64.specs.Root.{root}
 use Rattle.stretch.specs.Stretch.{part, splice, flat, off}
 use Rattle.stretch.specs.StretchLaws.{length-splice, part-splice-same}
 use Rattle.stretch.specs.SegmentLaws.{part-seg, splice-seg, splice-segs}
-use Rattle.mesh.specs.Mesh.{heldValue}
 use Rattle.mesh.specs.Element as element
 use Rattle.laplace.specs.declared.Places.{Places}
 use Rattle.laplace.specs.Assembly.{rightSide}
@@ -23,11 +22,10 @@ use Rattle.laplace.specs.Row.{tagsIn}
 use Rattle.laplace.specs.Whole.{pushesIn, rowsFor, Assembled}
 use Rattle.laplace.specs.Placed.{valuesOf, columnsOf, startsOf, padded}
 use Rattle.conjugate.specs.Solver.{Solve, begun}
-use Rattle.format.specs.Content.{Content, vertexCount, triangleCount, limitOf}
-use Rattle.format.specs.Range.{InRange}
+use Rattle.model.specs.Task.{Task, vertexCount, triangleCount}
 use Rattle.model.specs.Run.{place0, matrixOf, rightOf}
 use Rattle.model.specs.Sized.{Sized, Vectors}
-use Rattle.model.specs.SizeLaws.{sized, matrix-length, right-length, begun-vectors}
+use Rattle.model.specs.SizeLaws.{matrix-length, right-length, begun-vectors}
 use Rattle.work.specs.Layout.{atRight, atRow, atValues, atKept, atNorms, atNeighbours, atTags, atStarts, atColumns, atHeads, atLinks, atRowColumns}
 use Rattle.work.specs.Memory.{begunAgain}
 use Rattle.image.specs.Image.{planOf, floatsOf, wordsOf, floatsUsed, wordsUsed}
@@ -67,7 +65,7 @@ module _ {A : Type 0} where
 
 -- ---- the floats
 
-module _ (c : Content) (z : Sized c) where
+module _ (c : Task) (z : Sized c) where
   abbrev n : ℕ
   n = vertexCount c
 
@@ -75,7 +73,7 @@ module _ (c : Content) (z : Sized c) where
   t = triangleCount c
 
   abbrev norms : ℕ
-  norms = limitOf c + 1
+  norms = c .limit + 1
 
   abbrev values : List Float
   values = padded (9 * t + n) plusZero (valuesOf (matrixOf c))
@@ -230,7 +228,7 @@ module _ (c : Content) (z : Sized c) where
 
 -- ---- the words
 
-module _ (c : Content) (z : Sized c) where
+module _ (c : Task) (z : Sized c) where
   abbrev columns : List ℕ
   columns = padded (9 * triangleCount c + vertexCount c) 0 (columnsOf (matrixOf c))
 
@@ -325,7 +323,7 @@ module _ (c : Content) (z : Sized c) where
 
 -- ---- the assembly of a loaded mesh
 
-module _ (c : Content) (good : InRange c) (floats : List Float) (words : List ℕ) (floats-fit : 5 * vertexCount c + 9 * triangleCount c ≤ length floats) (words-fit : wordsUsed c ≤ length words) where
+module _ (c : Task) (good : Sized c) (floats : List Float) (words : List ℕ) (floats-fit : 5 * vertexCount c + 9 * triangleCount c ≤ length floats) (words-fit : wordsUsed c ≤ length words) where
   abbrev n′ : ℕ
   n′ = vertexCount c
 
@@ -336,7 +334,7 @@ module _ (c : Content) (good : InRange c) (floats : List Float) (words : List �
   places = placesAt n′ t′
 
   vertices-loaded : part (meshFloats c floats) 0 (2 * n′) ≡ c .vertices
-  vertices-loaded = part-splice-same floats 0 (c .vertices) (2 * n′) (good .pairs) (omega arith)
+  vertices-loaded = part-splice-same floats 0 (c .vertices) (2 * n′) (good .vertices) (omega arith)
 
   pub lays-floats : LaidFloats (meshFloats c floats) n′ t′ places
   lays-floats =
@@ -347,7 +345,7 @@ module _ (c : Content) (good : InRange c) (floats : List Float) (words : List �
   lays-words =
       let e : length (meshWords c words) ≡ length words = length-splice _ (atTags t′) (c .tags) ∙ length-splice _ (atNeighbours t′) (c .neighbours) ∙ length-splice words 0 (c .triangles) in
       record {
-        few = record { vertices = good .vertices; triangles = good .triangles };
+        few = record { vertices = good .vertices-most; triangles = good .triangles-most };
         triangles = omega arith;
         tags = omega arith;
         starts = omega arith;
@@ -355,23 +353,23 @@ module _ (c : Content) (good : InRange c) (floats : List Float) (words : List �
         heads = omega arith;
         links = omega arith;
         row = omega arith;
-        corners = rw (corners-loaded c (sized c good) words words-fit) (below-each n′ (c .triangles) (good .corners) .1);
+        corners = rw (corners-loaded c good words words-fit) (below-each n′ (c .triangles) (good .corners) .1);
       }
 
   matrix-assembled : rowsFor element.flat (meshFloats c floats) (meshWords c words) n′ t′ places n′ ≡ matrixOf c
   unfolding matrixOf
-  matrix-assembled = rw (vertices-loaded, corners-loaded c (sized c good) words words-fit, tags-loaded c (sized c good) words words-fit)
+  matrix-assembled = rw (vertices-loaded, corners-loaded c good words words-fit, tags-loaded c good words words-fit)
 
-  right-assembled : rightSide heldValue (tagsIn (meshWords c words) n′ places) (pushesIn element.flat (meshFloats c floats) (meshWords c words) n′ t′ places) n′ ≡ rightOf c
+  right-assembled : rightSide (c .held) (tagsIn (meshWords c words) n′ places) (pushesIn element.flat (meshFloats c floats) (meshWords c words) n′ t′ places) n′ ≡ rightOf c
   unfolding rightOf
-  right-assembled = rw (vertices-loaded, corners-loaded c (sized c good) words words-fit, tags-loaded c (sized c good) words words-fit)
+  right-assembled = rw (vertices-loaded, corners-loaded c good words words-fit, tags-loaded c good words words-fit)
 
   pub laid-out : (floats′ : List Float) (words′ : List ℕ) (k : ℕ)
       → Assembled (meshFloats c floats) (meshWords c words) floats′ words′ n′ t′ places k (rowsFor element.flat (meshFloats c floats) (meshWords c words) n′ t′ places n′)
-      (rightSide heldValue (tagsIn (meshWords c words) n′ places) (pushesIn element.flat (meshFloats c floats) (meshWords c words) n′ t′ places) n′)
+      (rightSide (c .held) (tagsIn (meshWords c words) n′ places) (pushesIn element.flat (meshFloats c floats) (meshWords c words) n′ t′ places) n′)
       → LaidOut c floats words floats′ words′
   unfolding assembledFloats
   laid-out floats′ words′ k a = record {
     floats-are = a .floats-are ∙ rw (right-assembled, matrix-assembled);
-    words-are = a .words-are ∙ rw matrix-assembled (words-assembled c (sized c good) words words-fit);
+    words-are = a .words-are ∙ rw matrix-assembled (words-assembled c good words words-fit);
   }

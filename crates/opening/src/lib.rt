@@ -1,7 +1,7 @@
 // Opening: a sheet is checked, its content is laid out in the lent buffers, and a run of it stands at place 0.
 use format::Real;
 use format::Whole;
-use image::Opened;
+use image::Answer;
 use laplace::Places;
 use plane::Point;
 use sheet::Checked;
@@ -15,8 +15,9 @@ ghost use lib.ListN.{length};
 ghost use Rattle.stretch.specs.Stretch.{splice};
 ghost use Rattle.format.specs.Content.{wholeOr, realOr};
 ghost use Rattle.format.specs.Sheet.{contentOf};
-ghost use Rattle.model.specs.Run.{bothGiven};
-ghost use Rattle.image.specs.Calls.{buffers};
+ghost use Rattle.model.specs.Task.{bothGiven, task};
+ghost use Rattle.work.specs.Record.{noRun};
+ghost use Rattle.image.specs.Calls.{buffers, answered};
 ghost use Rattle.image.specs.CallLaws.{Counted};
 ghost use Rattle.image.specs.Image.{givenOf};
 ghost use Rattle.image.specs.Opening as Opening;
@@ -119,7 +120,7 @@ fn put_tags(words: &mut [u32], at: usize, part: &[u8], n: usize)
 // The mesh of an accepted sheet, at the front of the floats and of the words.
 fn load(sheet: &[u8], h: Header, floats: &mut [f64], words: &mut [u32])
     requires { ⌜ Opening.Read (now sheet) h × Opening.Fits h (length (now floats)) (length (now words)) ⌝ }
-    ensures { λ _. ⌜ Opening.Loaded (contentOf (now (sheet .entry))) (now (floats .entry)) (now (words .entry)) (now (floats .exit)) (now (words .exit)) ⌝ }
+    ensures { λ _. ⌜ Opening.Loaded (task (contentOf (now (sheet .entry)))) (now (floats .entry)) (now (words .entry)) (now (floats .exit)) (now (words .exit)) ⌝ }
 {
     let n = h.n;
     let t = h.t;
@@ -157,7 +158,7 @@ fn places_at(n: usize, t: usize) -> Places
 // The mesh of an accepted sheet, with its matrix and its right side.
 fn lay_out(sheet: &[u8], h: Header, floats: &mut [f64], words: &mut [u32])
     requires { ⌜ Opening.Read (now sheet) h × Opening.Fits h (length (now floats)) (length (now words)) ⌝ }
-    ensures { λ _. ⌜ Opening.LaidOut (contentOf (now (sheet .entry))) (now (floats .entry)) (now (words .entry)) (now (floats .exit)) (now (words .exit)) ⌝ }
+    ensures { λ _. ⌜ Opening.LaidOut (task (contentOf (now (sheet .entry)))) (now (floats .entry)) (now (words .entry)) (now (floats .exit)) (now (words .exit)) ⌝ }
 {
     let n = h.n;
     let t = h.t;
@@ -204,7 +205,7 @@ fn place_zero(
     path: &mut [f64],
 ) -> Run
     requires { ⌜ Opening.Suffices (now sheet) h plan (buffers (now floats) (now words) (now path)) ⌝ }
-    ensures { λ r. ⌜ Opening.Stands (contentOf (now (sheet .entry))) (buffers (now (floats .entry)) (now (words .entry)) (now (path .entry))) r (buffers (now (floats .exit)) (now (words .exit)) (now (path .exit))) ⌝ }
+    ensures { λ r. ⌜ Opening.Stands (task (contentOf (now (sheet .entry)))) (buffers (now (floats .entry)) (now (words .entry)) (now (path .entry))) r (buffers (now (floats .exit)) (now (words .exit)) (now (path .exit))) ⌝ }
 {
     lay_out(sheet, h, floats, words);
     let rs = begin(plan, floats, words);
@@ -212,20 +213,28 @@ fn place_zero(
     Run::new(plan, rs)
 }
 
-// The run of a sheet at place 0; or the sheet's refusal, then 8, with every lent place as it was.
-pub fn open(sheet: &[u8], floats: &mut [f64], words: &mut [u32], path: &mut [f64]) -> Opened
+// No run, for a refusal.
+fn refuse(refused: u32) -> Answer
+    ensures { λ r. ⌜ r ≡ answered refused noRun ⌝ }
+{
+    let run = Run::nothing();
+    Answer { refused, run }
+}
+
+// The run of a sheet at place 0; or the sheet's refusal, then 8, with no run and every lent place as it was.
+pub fn open(sheet: &[u8], floats: &mut [f64], words: &mut [u32], path: &mut [f64]) -> Answer
     ensures { λ r. ⌜ Opens (now (sheet .entry)) (buffers (now (floats .entry)) (now (words .entry)) (now (path .entry))) r (buffers (now (floats .exit)) (now (words .exit)) (now (path .exit))) ⌝ }
 {
     let checked = sheet::check_sheet(sheet);
     match checked {
-        Checked::Refused(k) => Opened::Refused(k),
+        Checked::Refused(k) => refuse(k),
         Checked::Accepted(h) => {
             let plan = plan_of(h);
             if lacks(plan, floats.len(), words.len(), path.len()) {
-                return Opened::Refused(8);
+                return refuse(8);
             }
             let run = place_zero(sheet, h, plan, floats, words, path);
-            Opened::Open(run)
+            Answer { refused: 0, run }
         }
     }
 }

@@ -11,27 +11,31 @@ use lib.Seq.{take-all, drop-length}
 use Rattle.binary64.specs.Number.{pick}
 use Rattle.format.specs.Bytes.{Bytes}
 use Rattle.format.specs.Content.{Content}
-use Rattle.format.specs.Range.{InRange}
 use Rattle.format.specs.Sheet.{Parsed, accepted, refused, parse}
+use Rattle.format.specs.SheetLaws.{refuses}
 use Rattle.format.specs.Theorems.{parse-sound}
+use Rattle.model.specs.Task.{Task, task}
+use Rattle.model.specs.Sized.{Sized}
+use Rattle.model.specs.SizeLaws.{sized}
 use Rattle.model.specs.Run.{at, lastPlace}
 use Rattle.model.specs.RunLaws.{last-bound}
 use Rattle.model.specs.Machine.{Space, fresh, most, needs, short, ahead, refused as machineRefused, tick, Lent, Ticked, ticks}
 use Rattle.work.specs.declared.Run.{Run}
-use Rattle.image.specs.declared.Opened.{Opened}
+use Rattle.work.specs.Record.{noRun}
+use Rattle.image.specs.declared.Answer.{Answer}
 use Rattle.image.specs.Calls.{Buffers, fault, runAfter, buffersAfter}
 use Rattle.image.specs.CallLaws.{lacking}
 use Rattle.image.specs.Instance.{facts}
 use Rattle.image.specs.Lists.{Held, front, behind, performed, performs}
 use Rattle.image.specs.ListTheorem.{counted}
 use Rattle.image.specs.Image.{runOf, image, restOf}
-use Rattle.image.specs.Replay.{opening, openedBy, opened, Opens}
-use Rattle.image.specs.ReplayTheorem.{as-long, opened-run, never}
+use Rattle.image.specs.Replay.{Opening, opening, openedBy, opened, Opens}
+use Rattle.image.specs.ReplayTheorem.{as-long, opened-run, open-space}
 use Rattle.image.specs.Shown.{lengthsOf, machine, Shown, HandedOut}
 use Rattle.image.specs.Theorem.{begun, lists-of-calls-image, as-opened, lists-from-sheet, handed-from-sheet}
 use Rattle.text.specs.Put.{Printed}
 use Rattle.text.specs.Text.{refusedText}
-use Rattle.printing.specs.Printed.{mostBytes, places, stateText, contentText, parsedText, printed, atLast, parsedBuffers, printedBuffers, Prints}
+use Rattle.printing.specs.Printed.{mostBytes, places, stateText, taskText, parsedText, printed, atLast, parsedBuffers, printedBuffers, Prints}
 use Rattle.printing.specs.Steps.{shownText, far, lastText, PutsLast}
 use Rattle.printing.proofs.LawsText.{printed-as}
 
@@ -49,7 +53,7 @@ behind-all s b b′ e = rw (← e) (rw (drop-length (b .floats), drop-length (b 
 
 -- ---- the machine
 
-module _ (c : Content) (good : InRange c) where
+module _ (c : Task) (good : Sized c) where
   last-near : lastPlace c ≤ 4294967295
   last-near = let k : _ = counted c good in omega (arith, last-bound c, k .triangles, k .limit)
 
@@ -67,9 +71,18 @@ module _ (c : Content) (good : InRange c) where
 
 -- ---- a sheet that is opened, and the advance
 
-module _ (sheet : List ℕ) (bytes : Bytes sheet) (b : Buffers) (c : Content) (run : Run) (e : parse sheet ≡ accepted c) (o : opened sheet b .answer ≡ Opened.Open run) (space : short (needs c) (lengthsOf b) ≡ 0) where
-  abbrev good : InRange c
-  good = parse-sound sheet c bytes e
+module _ (sheet : List ℕ) (bytes : Bytes sheet) (b : Buffers) (content : Content) (e : parse sheet ≡ accepted content) (o : opened sheet b .answer .refused ≡ 0) where
+  abbrev c : Task
+  c = task content
+
+  abbrev run : Run
+  run = opened sheet b .answer .run
+
+  space : short (needs c) (lengthsOf b) ≡ 0
+  space = open-space sheet b content e o
+
+  good : Sized c
+  good = sized content (parse-sound sheet content bytes e)
 
   abbrev advances : List Lent
   advances = record { call = far; space = lengthsOf b } ∷ []
@@ -82,13 +95,13 @@ module _ (sheet : List ℕ) (bytes : Bytes sheet) (b : Buffers) (c : Content) (r
   unfolding shownText stateText
   held-text =
       let m : machine c (lengthsOf b) advances ≡ record { counter = atLast c; said = 0 ∷ [] } = machine-last c good (lengthsOf b) space in
-      let s : Shown c (atLast c) (held .run) (held .all) = rw m at (lists-from-sheet sheet bytes b c run e o advances .shown) in
-      let h : HandedOut c (atLast c) (held .run) (held .all) = rw m at (handed-from-sheet sheet bytes b c run e o advances) in
+      let s : Shown c (atLast c) (held .run) (held .all) = rw m at (lists-from-sheet sheet bytes b content e o advances .shown) in
+      let h : HandedOut c (atLast c) (held .run) (held .all) = rw m at (handed-from-sheet sheet bytes b content e o advances) in
       rw (s .place, s .fieldEnd, s .pathEnd, h .field, h .norms, h .gradients, h .points)
 
   -- opening leaves the buffers as long as they were
   same-lengths : lengthsOf (opened sheet b .all) ≡ lengthsOf b
-  same-lengths = rw (opened-run sheet b c e space) (as-long c good (facts c good) b space)
+  same-lengths = rw (opened-run sheet b content e space) (as-long c good (facts c good) b space)
 
   -- the advance is lent all there is
   lent-all : front (lengthsOf b) (opened sheet b .all) ≡ opened sheet b .all
@@ -98,7 +111,7 @@ module _ (sheet : List ℕ) (bytes : Bytes sheet) (b : Buffers) (c : Content) (r
   unfolding performs performed
   fault-none =
       let m : machine c (lengthsOf b) advances ≡ record { counter = atLast c; said = 0 ∷ [] } = machine-last c good (lengthsOf b) space in
-      let s : held .said ≡ 0 ∷ [] = rw m at (lists-from-sheet sheet bytes b c run e o advances .refusals) in
+      let s : held .said ≡ 0 ∷ [] = rw m at (lists-from-sheet sheet bytes b content e o advances .refusals) in
       ap (fault far run) (sym lent-all) ∙ ap (λ (l : List ℕ). getD l 0 0) s
 
   run-held : runAfter far run (opened sheet b .all) ≡ held .run
@@ -113,7 +126,7 @@ module _ (sheet : List ℕ) (bytes : Bytes sheet) (b : Buffers) (c : Content) (r
   last-held : buffersAfter far run (opened sheet b .all) ≡ image c (atLast c) (restOf c b)
   last-held =
       let m : machine c (lengthsOf b) advances ≡ record { counter = atLast c; said = 0 ∷ [] } = machine-last c good (lengthsOf b) space in
-      all-held ∙ ap (λ (h : Held). performs advances h .all) (as-opened sheet bytes b c run e o advances) ∙ ap (λ (h : Held). h .all) (lists-of-calls-image c good b space advances)
+      all-held ∙ ap (λ (h : Held). performs advances h .all) (as-opened sheet bytes b content e o advances) ∙ ap (λ (h : Held). h .all) (lists-of-calls-image c good b space advances)
       ∙ ap (λ (t : Ticked). image c (t .counter) (restOf c b)) m
 
   last-state : lastText run (opened sheet b .all) ≡ stateText (lastPlace c) (at c (lastPlace c))
@@ -122,84 +135,73 @@ module _ (sheet : List ℕ) (bytes : Bytes sheet) (b : Buffers) (c : Content) (r
 
 -- ---- what is printed
 
-refused-same : {j k : ℕ} → Opened.Refused j ≡ Opened.Refused k → j ≡ k
-refused-same e = cc
+-- what opening answers, and what it leaves, by whether the space lacks
+abbrev byLack : Task → Buffers → Bool → Opening
+byLack c b t = pick (eqb (pick {A = ℕ} t 8 0) 0) (opening 0 (runOf c fresh) (image c fresh (restOf c b))) (opening (pick t 8 0) noRun b)
 
 module _ (b : Buffers) (long : lengthsOf b ≡ places) where
   -- of the same buffers
-  same-text : (c : Content) → pick (eqb (short (needs c) (lengthsOf b)) 0) (stateText (lastPlace c) (at c (lastPlace c))) (refusedText 8) ≡ contentText c
-  unfolding contentText
+  same-text : (c : Task) → pick (eqb (short (needs c) (lengthsOf b)) 0) (stateText (lastPlace c) (at c (lastPlace c))) (refusedText 8) ≡ taskText c
+  unfolding taskText
   same-text c = ap (λ (s : Space). pick (eqb (short (needs c) s) 0) (stateText (lastPlace c) (at c (lastPlace c))) (refusedText 8)) long
 
   -- the sheet is refused, or its space is short
-  refused-text : (p : Parsed) (k : ℕ) → openedBy p b .answer ≡ Opened.Refused k → refusedText k ≡ parsedText p
-  refused-text (refused j) k e = ap refusedText (refused-same (sym e))
-  refused-text (accepted c) k e = go (lacking (needs c) (lengthsOf b)) e ∙ same-text c
+  refused-text : (p : Parsed) → (openedBy p b .answer .refused ≡ 0 → ⊥) → refusedText (openedBy p b .answer .refused) ≡ parsedText p
+  refused-text (refused j) n = refl
+  refused-text (accepted c) n = go (lacking (needs (task c)) (lengthsOf b)) n ∙ same-text (task c)
     where
-      go : (t : Bool)
-          → pick (eqb (pick t 8 0) 0) (opening (Opened.Open (runOf c fresh)) (image c fresh (restOf c b))) (opening (Opened.Refused (pick t 8 0)) b) .answer ≡ Opened.Refused k
-          → refusedText k ≡ pick (eqb (pick {A = ℕ} t 8 0) 0) (stateText (lastPlace c) (at c (lastPlace c))) (refusedText 8)
-      go true f = ap refusedText (refused-same (sym f))
-      go false f = absurd (never (sym f))
-
-  -- the run is open
-  open-text : (sheet : List ℕ) → Bytes sheet → (run : Run) → opened sheet b .answer ≡ Opened.Open run → (p : Parsed) → parse sheet ≡ p → openedBy p b .answer ≡ Opened.Open run
-      → lastText run (opened sheet b .all) ≡ parsedText p
-  open-text sheet bytes run o (refused j) q e = absurd (never e)
-  open-text sheet bytes run o (accepted c) q e = go (lacking (needs c) (lengthsOf b)) refl e ∙ same-text c
-    where
-      go : (t : Bool) → lacking (needs c) (lengthsOf b) ≡ t
-          → pick (eqb (pick t 8 0) 0) (opening (Opened.Open (runOf c fresh)) (image c fresh (restOf c b))) (opening (Opened.Refused (pick t 8 0)) b) .answer ≡ Opened.Open run
-          → lastText run (opened sheet b .all) ≡ pick (eqb (short (needs c) (lengthsOf b)) 0) (stateText (lastPlace c) (at c (lastPlace c))) (refusedText 8)
-      go true t f = absurd (never f)
-      go false t f = rw t (last-state sheet bytes b c run q o (rw t))
-
-  -- what is left of the buffers
-  refused-held : (p : Parsed) (k : ℕ) → openedBy p b .answer ≡ Opened.Refused k → openedBy p b .all ≡ parsedBuffers p b
-  refused-held (refused j) k e = refl
-  refused-held (accepted c) k e = go (lacking (needs c) (lengthsOf b)) e
-    where
-      go : (t : Bool)
-          → pick (eqb (pick t 8 0) 0) (opening (Opened.Open (runOf c fresh)) (image c fresh (restOf c b))) (opening (Opened.Refused (pick t 8 0)) b) .answer ≡ Opened.Refused k
-          → pick (eqb (pick t 8 0) 0) (opening (Opened.Open (runOf c fresh)) (image c fresh (restOf c b))) (opening (Opened.Refused (pick t 8 0)) b) .all
-          ≡ pick (eqb (pick {A = ℕ} t 8 0) 0) (image c (atLast c) (restOf c b)) b
+      go : (t : Bool) → (byLack (task c) b t .answer .refused ≡ 0 → ⊥)
+          → refusedText (byLack (task c) b t .answer .refused) ≡ pick (eqb (pick {A = ℕ} t 8 0) 0) (stateText (lastPlace (task c)) (at (task c) (lastPlace (task c)))) (refusedText 8)
       go true f = refl
-      go false f = absurd (never (sym f))
+      go false f = absurd (f refl)
 
-  open-held : (sheet : List ℕ) → Bytes sheet → (run : Run) → opened sheet b .answer ≡ Opened.Open run → (p : Parsed) → parse sheet ≡ p → openedBy p b .answer ≡ Opened.Open run
-      → buffersAfter far run (opened sheet b .all) ≡ parsedBuffers p b
-  open-held sheet bytes run o (refused j) q e = absurd (never e)
-  open-held sheet bytes run o (accepted c) q e = go (lacking (needs c) (lengthsOf b)) refl e
+  refused-held : (p : Parsed) → (openedBy p b .answer .refused ≡ 0 → ⊥) → openedBy p b .all ≡ parsedBuffers p b
+  refused-held (refused j) n = refl
+  refused-held (accepted c) n = go (lacking (needs (task c)) (lengthsOf b)) n
     where
-      go : (t : Bool) → lacking (needs c) (lengthsOf b) ≡ t
-          → pick (eqb (pick t 8 0) 0) (opening (Opened.Open (runOf c fresh)) (image c fresh (restOf c b))) (opening (Opened.Refused (pick t 8 0)) b) .answer ≡ Opened.Open run
-          → buffersAfter far run (opened sheet b .all) ≡ pick (eqb (short (needs c) (lengthsOf b)) 0) (image c (atLast c) (restOf c b)) b
-      go true t f = absurd (never f)
-      go false t f = rw t (last-held sheet bytes b c run q o (rw t))
+      go : (t : Bool) → (byLack (task c) b t .answer .refused ≡ 0 → ⊥)
+          → byLack (task c) b t .all ≡ pick (eqb (pick {A = ℕ} t 8 0) 0) (image (task c) (atLast (task c)) (restOf (task c) b)) b
+      go true f = refl
+      go false f = absurd (f refl)
 
-  module _ (sheet : List ℕ) (few : length sheet ≤ mostBytes) (a : Opened) (b′ : Buffers) (o : Opens sheet b a b′) where
-    printed-refused : (k : ℕ) → a ≡ Opened.Refused k → refusedText k ≡ printed sheet
-    unfolding printed opened
-    printed-refused k e = rw (le-ltb mostBytes (length sheet) few) (refused-text (parse sheet) k (sym (o .answer) ∙ e))
+  module _ (sheet : List ℕ) (bytes : Bytes sheet) (o : opened sheet b .answer .refused ≡ 0) where
+    -- no sheet that is refused is opened
+    never-open : (j : ℕ) → parse sheet ≡ refused j → ⊥
+    unfolding opened
+    never-open j q = refuses sheet j q (sym (ap (λ (p : Parsed). openedBy p b .answer .refused) q) ∙ o)
 
-    printed-run : Bytes sheet → (run : Run) → a ≡ Opened.Open run → lastText run b′ ≡ printed sheet
-    unfolding printed opened
-    printed-run bytes run e =
-        let f : opened sheet b .answer ≡ Opened.Open run = sym (o .answer) ∙ e in
-        rw (le-ltb mostBytes (length sheet) few) (ap (lastText run) (o .held) ∙ open-text sheet bytes run f (parse sheet) refl f)
+    -- the run is open
+    open-text : (p : Parsed) → parse sheet ≡ p → lastText (opened sheet b .answer .run) (opened sheet b .all) ≡ parsedText p
+    open-text (refused j) q = absurd (never-open j q)
+    open-text (accepted c) q =
+        let s : short (needs (task c)) (lengthsOf b) ≡ 0 = open-space sheet b c q o in
+        rw (← (same-text (task c)), s) (last-state sheet bytes b c q o)
 
-    pub refused-prints : {out out′ : List ℕ} {r : ℕ} (k : ℕ) → a ≡ Opened.Refused k → Printed out 0 (refusedText k) r out′ → Prints sheet b out r b′ out′
-    unfolding printedBuffers opened
-    refused-prints k e p = record {
-      text = printed-as (printed sheet) p (printed-refused k e);
-      held = rw (le-ltb mostBytes (length sheet) few) (o .held ∙ refused-held (parse sheet) k (sym (o .answer) ∙ e));
-    }
+    open-held : (p : Parsed) → parse sheet ≡ p → buffersAfter far (opened sheet b .answer .run) (opened sheet b .all) ≡ parsedBuffers p b
+    open-held (refused j) q = absurd (never-open j q)
+    open-held (accepted c) q =
+        let s : short (needs (task c)) (lengthsOf b) ≡ 0 = open-space sheet b c q o in
+        rw s (last-held sheet bytes b c q o)
 
-    pub run-prints : {out out′ : List ℕ} {r : ℕ} {b″ : Buffers} → Bytes sheet → (run : Run) → a ≡ Opened.Open run → PutsLast run b′ out r b″ out′ → Prints sheet b out r b″ out′
-    unfolding printedBuffers opened
-    run-prints bytes run e p =
-        let f : opened sheet b .answer ≡ Opened.Open run = sym (o .answer) ∙ e in
+  module _ (sheet : List ℕ) (few : length sheet ≤ mostBytes) (a : Answer) (b′ : Buffers) (o : Opens sheet b a b′) where
+    same-refused : a .refused ≡ opened sheet b .answer .refused
+    same-refused = ap (λ (x : Answer). x .refused) (o .answer)
+
+    pub refused-prints : {out out′ : List ℕ} {r : ℕ} → (a .refused ≡ 0 → ⊥) → Printed out 0 (refusedText (a .refused)) r out′ → Prints sheet b out r b′ out′
+    unfolding printed printedBuffers opened
+    refused-prints n p =
+        let f : openedBy (parse sheet) b .answer .refused ≡ 0 → ⊥ = λ z. n (same-refused ∙ z) in
         record {
-          text = printed-as (printed sheet) (p .text) (printed-run bytes run e);
-          held = rw (le-ltb mostBytes (length sheet) few) (p .held ∙ ap (buffersAfter far run) (o .held) ∙ open-held sheet bytes run f (parse sheet) refl f);
+          text = printed-as (printed sheet) p (rw (le-ltb mostBytes (length sheet) few) (ap refusedText same-refused ∙ refused-text (parse sheet) f));
+          held = rw (le-ltb mostBytes (length sheet) few) (o .held ∙ refused-held (parse sheet) f);
+        }
+
+    pub run-prints : {out out′ : List ℕ} {r : ℕ} {b″ : Buffers} → Bytes sheet → a .refused ≡ 0 → PutsLast (a .run) b′ out r b″ out′ → Prints sheet b out r b″ out′
+    unfolding printed printedBuffers
+    run-prints bytes e p =
+        let f : opened sheet b .answer .refused ≡ 0 = sym same-refused ∙ e in
+        let g : a .run ≡ opened sheet b .answer .run = ap (λ (x : Answer). x .run) (o .answer) in
+        record {
+          text = printed-as (printed sheet) (p .text) (rw (le-ltb mostBytes (length sheet) few) (rw (g, o .held) (open-text sheet bytes f (parse sheet) refl)));
+          held = rw (le-ltb mostBytes (length sheet) few) (p .held ∙ rw (g, o .held) (open-held sheet bytes f (parse sheet) refl));
         }

@@ -6,8 +6,8 @@ use mathlib.Core.Option.{none}
 use lib.Dec.{ltb, eqb}
 use lib.ListN.{length, take}
 use Rattle.binary64.specs.Number.{pick}
-use Rattle.format.specs.Content.{Content}
 use Rattle.format.specs.Sheet.{Parsed, accepted, refused, parse}
+use Rattle.model.specs.Task.{Task, task}
 use Rattle.model.specs.Space.{pathSpace}
 use Rattle.model.specs.Machine.{Space, Counter, needs, short}
 use Rattle.model.specs.Run.{State, at, lastPlace}
@@ -33,14 +33,14 @@ places = record { floats = 8192; words = 16384; path = pathSpace 4096 }
 unfoldable pub stateText : ℕ → State → List ℕ
 stateText place s = runText place (s .field .end) (s .trail .walk .end) (s .field .solve .x) (s .field .norms) (s .trail .gradients) (s .trail .path)
 
--- of a sheet's content: its last place, where the places suffice
-unfoldable pub contentText : Content → List ℕ
+-- of a task: its last place, where the places suffice
+unfoldable pub taskText : Task → List ℕ
 unfolding stateText
-contentText c = pick (eqb (short (needs c) places) 0) (stateText (lastPlace c) (at c (lastPlace c))) (refusedText 8)
+taskText c = pick (eqb (short (needs c) places) 0) (stateText (lastPlace c) (at c (lastPlace c))) (refusedText 8)
 
 abbrev pub parsedText : Parsed → List ℕ
 parsedText (refused k) = refusedText k
-parsedText (accepted c) = contentText c
+parsedText (accepted c) = taskText (task c)
 
 -- too many bytes come before any other refusal
 unfoldable pub printed : List ℕ → List ℕ
@@ -49,13 +49,13 @@ printed sheet = pick (ltb mostBytes (length sheet)) (refusedText 8) (parsedText 
 -- ---- the lent buffers
 
 -- the machine at the last place, after one advance
-abbrev pub atLast : Content → Counter
+abbrev pub atLast : Task → Counter
 atLast c = record { place = lastPlace c; mark = none; passes = lastPlace c }
 
 -- as they were where the sheet or the space is refused; else those of the last place
 abbrev pub parsedBuffers : Parsed → Buffers → Buffers
 parsedBuffers (refused k) b = b
-parsedBuffers (accepted c) b = pick (eqb (short (needs c) (lengthsOf b)) 0) (image c (atLast c) (restOf c b)) b
+parsedBuffers (accepted c) b = pick (eqb (short (needs (task c)) (lengthsOf b)) 0) (image (task c) (atLast (task c)) (restOf (task c) b)) b
 
 unfoldable pub printedBuffers : List ℕ → Buffers → Buffers
 printedBuffers sheet b = pick (ltb mostBytes (length sheet)) b (parsedBuffers (parse sheet) b)

@@ -6,7 +6,7 @@ use Rattle.model.specs.Machine.{needs}
 use Rattle.model.specs.Shown.{shown, sheetRead}
 use Rattle.text.specs.Text.{glyph, digits, placesBy, places, decimal, hexOf, word, numbers, line, singles, pairs, endLine, refusedText, runText}
 use Rattle.text.specs.Samples.{s1Text}
-use Rattle.printing.specs.Printed.{stateText, contentText, printed}
+use Rattle.printing.specs.Printed.{stateText, taskText, printed}
 
 -- samples/s1.sheet: each count, and behind it each vertex, the triangle, its neighbours, the tags, each setting
 abbrev s1Sheet : List ℕ
@@ -29,7 +29,7 @@ s1Sheet =
     ∷ []
 
 s1-printed : printed s1Sheet ≡ s1Text
-unfolding printed contentText stateText needs shown sheetRead runText endLine singles pairs line numbers word decimal places placesBy digits glyph hexOf
+unfolding printed taskText stateText needs shown sheetRead runText endLine singles pairs line numbers word decimal places placesBy digits glyph hexOf
 s1-printed = refl
 
 -- refused 1

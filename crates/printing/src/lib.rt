@@ -1,5 +1,4 @@
 // What `spiral` prints of a sheet (document 01, Length, writer, program): the text of its run at the last place, or of the refusal.
-use run::Opened;
 use work::Run;
 ghost use lib.ListN.{take};
 ghost use Rattle.image.specs.Calls.{buffers};
@@ -79,10 +78,11 @@ pub fn print_sheet(
         return text::put_refused(out, 0, 8);
     }
     let opened = run::open(sheet, floats, words, path);
-    match opened {
-        Opened::Refused(k) => text::put_refused(out, 0, k as u64),
-        Opened::Open(r) => put_last(out, r, floats, words, path),
+    if opened.refused != 0 {
+        return text::put_refused(out, 0, opened.refused as u64);
     }
+    let r = opened.run;
+    put_last(out, r, floats, words, path)
 }
 
 // The same of the first `got` bytes, or of all where `got` is more.

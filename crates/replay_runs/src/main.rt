@@ -1,5 +1,5 @@
 // Replays sheets with lists of calls: each is opened, its calls are made, and one line says what stands then. Standard input has for each sheet how many
-// bytes it has, its bytes, how many calls there are, and the five numbers of each call as `run::replay` takes them; a number is four bytes, the least first.
+// bytes it has, its bytes, how many calls there are, and the six numbers of each call as `run::replay` takes them; a number is four bytes, the least first.
 // `compare/run --runs` writes that input, and the lines as the original Rust and the counter machine give them.
 mod digest;
 mod lines;
@@ -7,7 +7,6 @@ mod lines;
 ghost use mathlib.Core.Path.{_≡_};
 ghost use Prim.Native.Nat.{_≤_};
 ghost use lib.ListN.{length};
-use run::Opened;
 
 // The numbers of the calls; 0 beyond them.
 fn read_calls(bytes: &[u8], calls: &mut [u32]) {
@@ -23,10 +22,12 @@ fn replay(sheet: &[u8], calls: &[u32], count: usize) {
     let mut words = [0u32; 4096];
     let mut path = [0.0; 1024];
     let opened = run::replay(sheet, calls, &mut said, &mut floats, &mut words, &mut path);
-    match opened {
-        Opened::Refused(k) => lines::refused(k),
-        Opened::Open(r) => lines::opened(r, &said, count, &floats, &path),
+    if opened.refused != 0 {
+        lines::refused(opened.refused);
+        return;
     }
+    let r = opened.run;
+    lines::opened(r, &said, count, &floats, &path);
 }
 
 // At most 40 calls.
@@ -34,7 +35,7 @@ fn replay_calls(sheet: &[u8], calls: &[u32], count: usize) {
     if 40 < count {
         return;
     }
-    let numbers = 5 * count;
+    let numbers = 6 * count;
     if calls.len() < numbers {
         return;
     }
@@ -42,7 +43,7 @@ fn replay_calls(sheet: &[u8], calls: &[u32], count: usize) {
 }
 
 fn replay_one(sheet: &[u8], bytes: &[u8], count: usize) {
-    let mut calls = [0u32; 200];
+    let mut calls = [0u32; 240];
     read_calls(bytes, &mut calls);
     replay_calls(sheet, &calls, count);
 }

@@ -6,7 +6,6 @@ pub use calls::back;
 pub use calls::mark;
 pub use calls::return_to_mark;
 pub use image::Answer;
-pub use image::Opened;
 pub use opening::open;
 pub use replaying::make;
 pub use replaying::perform;

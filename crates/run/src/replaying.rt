@@ -1,6 +1,5 @@
 // A list of calls written as numbers, made one after the other from place 0.
 use image::Answer;
-use image::Opened;
 use work::Run;
 ghost use Prim.Native.Nat.{_+_, _*_, _≤_};
 ghost use lib.ListN.{length};
@@ -35,19 +34,19 @@ fn turn(
     words: &[u32],
     path: &mut [f64],
 ) -> Answer
-    requires { ⌜ 5 * i + 5 ≤ length (now calls) ⌝ }
+    requires { ⌜ 6 * i + 6 ≤ length (now calls) ⌝ }
     ensures { λ r. ⌜ Turned (lentAt (now (calls .entry)) i) run (buffers (now (floats .entry)) (now (words .entry)) (now (path .entry))) r (buffers (now (floats .exit)) (now (words .entry)) (now (path .exit))) ⌝ }
 {
-    let at = 5 * i;
+    let at = 6 * i;
     let kind = calls[at];
     let k = calls[at + 1];
-    let f = gate::least(calls[at + 2] as usize, floats.len());
-    let w = gate::least(calls[at + 3] as usize, words.len());
-    let p = gate::least(calls[at + 4] as usize, path.len());
+    let f = gate::least(calls[at + 3] as usize, floats.len());
+    let w = gate::least(calls[at + 4] as usize, words.len());
+    let p = gate::least(calls[at + 5] as usize, path.len());
     perform(run, kind, k, &mut floats[..f], &words[..w], &mut path[..p])
 }
 
-// A list of calls, five numbers each: kind, k, and how many floats, words and places of the path are lent. Each call's refusal goes to its place of said.
+// A list of calls, six numbers each: kind, k, one that no call takes yet, and how many floats, words and places of the path are lent. Each call's refusal goes to its place of said.
 pub fn make(
     run: Run,
     calls: &[u32],
@@ -59,7 +58,7 @@ pub fn make(
     ensures { λ r. ⌜ Performs (now (calls .entry)) run (now (said .entry)) (buffers (now (floats .entry)) (now (words .entry)) (now (path .entry))) r (now (said .exit)) (buffers (now (floats .exit)) (now (words .entry)) (now (path .exit))) ⌝ }
 {
     let mut held = run;
-    let count = gate::least(said.len(), calls.len() / 5);
+    let count = gate::least(said.len(), calls.len() / 6);
     for i in 0..count {
         let a = turn(held, calls, i, floats, words, path);
         said[i] = a.refused;
@@ -77,15 +76,17 @@ pub fn replay(
     floats: &mut [f64],
     words: &mut [u32],
     path: &mut [f64],
-) -> Opened
+) -> Answer
     ensures { λ r. ⌜ Replayed (now (sheet .entry)) (now (calls .entry)) (now (said .entry)) (buffers (now (floats .entry)) (now (words .entry)) (now (path .entry))) r (now (said .exit)) (buffers (now (floats .exit)) (now (words .exit)) (now (path .exit))) ⌝ }
 {
     let opened = opening::open(sheet, floats, words, path);
-    match opened {
-        Opened::Refused(k) => Opened::Refused(k),
-        Opened::Open(run) => {
-            let last = make(run, calls, said, floats, words, path);
-            Opened::Open(last)
-        }
+    if opened.refused != 0 {
+        return opened;
+    }
+    let run = opened.run;
+    let last = make(run, calls, said, floats, words, path);
+    Answer {
+        refused: 0,
+        run: last,
     }
 }

@@ -1,4 +1,4 @@
-// What a run shows of its field: parts of the lent floats, empty where a count of the record is past its most or the buffer is too short.
+// What a run shows of its field: parts of the lent floats, empty where n or T is past its most or the part past the buffer's end.
 use work::Run;
 ghost use mathlib.Core.Path.{_≡_};
 ghost use Rattle.image.specs.Parts as Parts;

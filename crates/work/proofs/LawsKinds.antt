@@ -206,7 +206,7 @@ unfolding verticesOf trianglesOf neighboursOf fieldOf gradientsOf crossing
 crossing-is plan words f p k e m u at g r em eu ea eg is = rw (eg, em, eu, ea) at is
 
 pub crossed-is : (plan : Plan) (s : Stand) (c : Crossing) (last : Bool) (w : Walk) (s′ : Stand)
-    → last ≡ eqb (s .crossings + 1) (20 * plan .t) → w ≡ walked (plan .room) last (s .walk) c → s′ ≡ walkedStand s w (s .crossings + 1) → s′ ≡ crossedStand plan s c
+    → last ≡ eqb (s .crossings + 1) (factor * plan .t) → w ≡ walked (plan .room) last (s .walk) c → s′ ≡ walkedStand s w (s .crossings + 1) → s′ ≡ crossedStand plan s c
 crossed-is plan s c last w s′ el ew es = es ∙ ap (λ (x : Walk). walkedStand s x (s .crossings + 1)) (ew ∙ ap (λ (b : Bool). walked (plan .room) b (s .walk) c) el)
 
 pub cross-leads : (plan : Plan) (words : List ℕ) (f : List Float) (s : Stand) (c : Crossing) (s′ : Stand) → c ≡ crossingOf plan words f s → s′ ≡ crossedStand plan s c

@@ -22,6 +22,7 @@ ghost use Rattle.binary64.specs.Number.{pick};
 ghost use Rattle.work.specs.Memory as Memory;
 ghost use Rattle.work.specs.Ready.{Steps};
 ghost use Rattle.pde.specs.Work.{Fielded, crossingIn};
+ghost use Rattle.model.specs.Space.{factor};
 ghost use Rattle.model.specs.Run.{rule};
 ghost use Rattle.work.specs.Layout.{meshAt};
 ghost use Rattle.work.specs.Kinds.{Steppable, Searchable, Grounded, Crossable, SetsOut, Leads, foundIn, lostBy, gradientsPut};
@@ -239,14 +240,14 @@ pub fn crossing_of(
 // Which crossing is the last of all.
 fn is_last(made: usize, t: usize) -> bool
     requires { ⌜ t < 8193 ⌝ }
-    ensures { λ r. ⌜ r ≡ eqb made (20 * t) ⌝ }
+    ensures { λ r. ⌜ r ≡ eqb made (factor * t) ⌝ }
 {
     made == Run::FACTOR * t
 }
 
 // The stand after a crossing.
 pub fn crossed(plan: Plan, stand: Stand, c: Crossing) -> Stand
-    requires { ⌜ (plan .t < 8193) × (stand .place < 1000000) × (stand .crossings < 20 * plan .t) × (stand .walk .points ≤ plan .room) ⌝ }
+    requires { ⌜ (plan .t < 8193) × (stand .place < 1000000) × (stand .crossings < factor * plan .t) × (stand .walk .points ≤ plan .room) ⌝ }
     ensures { λ r. ⌜ r ≡ Memory.crossedStand plan stand c ⌝ }
 {
     let made = stand.crossings + 1;

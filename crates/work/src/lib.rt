@@ -7,7 +7,7 @@ pub mod place;
 use pde::Walk;
 use plane::Point;
 ghost use mathlib.Core.Path.{_≡_};
-ghost use Rattle.work.specs.Record.{newRun};
+ghost use Rattle.work.specs.Record.{newRun, noRun};
 
 // A given start.
 pub enum Given {
@@ -102,5 +102,21 @@ impl Run {
             mark: Mark::Nothing,
             passes: 0,
         }
+    }
+
+    // No run, where a sheet is refused.
+    pub fn nothing() -> Run
+        ensures { λ r. ⌜ r ≡ noRun ⌝ }
+    {
+        let plan = Plan {
+            n: 0,
+            t: 0,
+            limit: 0,
+            room: 0,
+            tolerance: 0.0,
+            step: 0.0,
+            start: Given::Nothing,
+        };
+        Run::new(plan, 0.0)
     }
 }

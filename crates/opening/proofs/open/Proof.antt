@@ -24,10 +24,16 @@ lacks-requires c κs =
     let bytes : Bytes (c .before .before .before .before .before .before .before .before .before .args .sheet .now) = record { below = λ i. c .before .before .before .before .before .before .before .before .shared-slice-known .given i .fits } in
     counted-read _ bytes _ (sym (c .before .before .checked2 .given .1) ∙ c .before .before .before .before .check-sheet .ensures) _ (c .plan-of .ensures)
 
+refuse-requires : tie.Need-refuse-requires
+refuse-requires c κs = search needs
+
+refuse-requires-2 : tie.Need-refuse-requires-2
+refuse-requires-2 c κs = search needs
+
 returns : tie.Need-returns
 returns c =
-    let bytes : Bytes (c .before .before .before .before .before .before .before .before .before .before .before .args .sheet .now) = record { below = λ i. c .before .before .before .before .before .before .before .before .before .before .shared-slice-known .given i .fits } in
-    answers-short _ bytes _ (sym (c .before .before .before .before .checked2 .given .1) ∙ c .before .before .before .before .before .before .check-sheet .ensures) (buffers _ _ _) _ (c .before .before .plan-of .ensures) (sym (c .before .lacks .ensures) ∙ c .if1 .taken)
+    let bytes : Bytes (c .before .before .before .before .before .before .before .before .before .before .before .before .args .sheet .now) = record { below = λ i. c .before .before .before .before .before .before .before .before .before .before .before .shared-slice-known .given i .fits } in
+    answers-short _ bytes _ (sym (c .before .before .before .before .before .checked2 .given .1) ∙ c .before .before .before .before .before .before .before .check-sheet .ensures) (buffers _ _ _) _ (c .before .before .before .plan-of .ensures) _ (c .refuse2 .ensures) (sym (c .before .before .lacks .ensures) ∙ c .before .if1 .taken)
 
 place-zero-requires : tie.Need-place-zero-requires
 place-zero-requires c κs =
@@ -35,7 +41,7 @@ place-zero-requires c κs =
     suffices _ bytes _ (sym (c .before .before .before .before .before .before .before .checked2 .given .1) ∙ c .before .before .before .before .before .before .before .before .before .check-sheet .ensures) (buffers _ _ _) _ (c .before .before .before .before .before .plan-of .ensures) (sym (c .before .before .before .before .lacks .ensures) ∙ c .before .before .before .if1 .left)
 
 returns-2 : tie.Need-returns-2
-returns-2 c = answers-refused _ _ _ (sym (c .before .checked .given .1) ∙ c .before .before .before .check-sheet .ensures)
+returns-2 c = answers-refused _ _ _ _ (c .refuse .ensures) (sym (c .before .before .checked .given .1) ∙ c .before .before .before .before .check-sheet .ensures)
 
 same-length : tie.Need-same-length
 same-length c = search needs
@@ -57,9 +63,11 @@ open-spec =
     (tie.spec
     check-sheet-requires
     enum-known-checked
+    refuse-requires
     enum-known-checked-2
     plan-of-requires
     lacks-requires
+    refuse-requires-2
     returns
     place-zero-requires
     returns-2

@@ -90,7 +90,7 @@ returns : tie.Need-returns Inv-loop μ-loop
 returns c =
     let a = c .before .before .before .before .before .before .before .before .args in
     let s = c .before .loop in
-    let e : s .i ≡ min (length (a .said .now)) (length (a .calls .now) / 5) = omega (arith, c .before .before .least .ensures) in
+    let e : s .i ≡ min (length (a .said .now)) (length (a .calls .now) / 6) = omega (arith, c .before .before .least .ensures) in
     record { left = rw e at (s .inv .4); told = rw e at (s .inv .6); held = rw e at (s .inv .5) }
 
 pub make-spec : {M : Type 1} → statement M

@@ -37,7 +37,7 @@ shared-slice-read-least : tie.Need-shared-slice-read-least
 shared-slice-read-least c = search needs
 
 cast-least : tie.Need-cast-least
-cast-least c = omega (arith, c .shared-slice-known5 .given (5 * c .before .before .before .before .before .before .before .args .i + 2))
+cast-least c = omega (arith, c .shared-slice-known5 .given (6 * c .before .before .before .before .before .before .before .args .i + 3))
 
 least-requires : tie.Need-least-requires
 least-requires c κs = search needs
@@ -52,7 +52,7 @@ shared-slice-read-least-2 : tie.Need-shared-slice-read-least-2
 shared-slice-read-least-2 c = search needs
 
 cast-least-2 : tie.Need-cast-least-2
-cast-least-2 c = omega (arith, c .shared-slice-known6 .given (5 * c .before .before .before .before .before .before .before .before .before .args .i + 3))
+cast-least-2 c = omega (arith, c .shared-slice-known6 .given (6 * c .before .before .before .before .before .before .before .before .before .args .i + 4))
 
 least-requires-2 : tie.Need-least-requires-2
 least-requires-2 c κs = search needs
@@ -67,7 +67,7 @@ shared-slice-read-least-3 : tie.Need-shared-slice-read-least-3
 shared-slice-read-least-3 c = search needs
 
 cast-least-3 : tie.Need-cast-least-3
-cast-least-3 c = omega (arith, c .shared-slice-known7 .given (5 * c .before .before .before .before .before .before .before .before .before .before .before .args .i + 4))
+cast-least-3 c = omega (arith, c .shared-slice-known7 .given (6 * c .before .before .before .before .before .before .before .before .before .before .before .args .i + 5))
 
 least-requires-3 : tie.Need-least-requires-3
 least-requires-3 c κs = search needs
