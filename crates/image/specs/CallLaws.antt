@@ -11,6 +11,7 @@ use Rattle.model.specs.Space.{floatSpace, wordSpace, pathSpace}
 use Rattle.model.specs.Machine.{Call, Space}
 use Rattle.work.specs.declared.Plan.{Plan}
 use Rattle.work.specs.declared.Run.{Run}
+use Rattle.work.specs.Record.{newRun, noRun}
 use Rattle.image.specs.Calls.{Buffers, buffers, unless10, countsFault, standSound, markSound, wordsSound, heldFault, gone, fault, runAfter, buffersAfter}
 use Rattle.image.specs.Shown.{lengthsOf}
 
@@ -30,6 +31,11 @@ module _ (c : Call) (r : Run) (b : Buffers) where
       go : (t : Bool) → pick t (buffers (gone c r b .floats) (b .words) (gone c r b .path)) b .words ≡ b .words
       go true = refl
       go false = refl
+
+-- Every call on no run is refused.
+pub none-refused : (c : Call) (b : Buffers) → fault c noRun b ≡ 10
+unfolding fault heldFault noRun newRun
+none-refused c b = refl
 
 -- ---- tests
 

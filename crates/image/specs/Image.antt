@@ -56,9 +56,9 @@ abbrev pub keptVectors : Task → Option ℕ → List Float
 keptVectors c none = replicate (3 * vertexCount c) plusZero
 keptVectors c (some p) = let s = at c p .field .solve in s .x ++ (s .r ++ s .p)
 
--- the segments before the norms
-abbrev pub frontSegments : Task → State → Option ℕ → List (List Float)
-frontSegments c s m =
+-- the segments that a pass works on
+abbrev pub frontSegments : Task → State → List (List Float)
+frontSegments c s =
     c .vertices
     ∷ rightOf c
     ∷ replicate (vertexCount c) plusZero
@@ -67,12 +67,11 @@ frontSegments c s m =
     ∷ s .field .solve .r
     ∷ s .field .solve .p
     ∷ replicate (vertexCount c) plusZero
-    ∷ keptVectors c m
     ∷ s .trail .gradients
     ∷ []
 
 abbrev pub floatSegments : Task → State → Option ℕ → List Float → List (List Float)
-floatSegments c s m rest = frontSegments c s m ++ (padded (c .limit + 1) plusZero (s .field .norms) ∷ rest ∷ [])
+floatSegments c s m rest = frontSegments c s ++ (padded (c .limit + 1) plusZero (s .field .norms) ∷ (keptVectors c m ++ rest) ∷ [])
 
 unfoldable pub floatsOf : Task → State → Option ℕ → List Float → List Float
 floatsOf c s m rest = flat (floatSegments c s m rest)

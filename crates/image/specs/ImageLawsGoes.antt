@@ -18,9 +18,9 @@ use Rattle.model.specs.Run.{at, finished, lastPlace}
 use Rattle.model.specs.Sized.{Sized}
 use Rattle.model.specs.RunLaws.{last-first, last-finished}
 use Rattle.work.specs.Memory.{Work, once, goes, keptFloats}
-use Rattle.image.specs.Image.{planOf, floatsOf, wordsOf}
+use Rattle.image.specs.Image.{planOf, keptVectors, floatsOf, wordsOf}
 use Rattle.image.specs.ImageLawsSegments.{part-vectors, put-kept}
-use Rattle.image.specs.ImageLawsLengths.{shaped-at, laid, length-kept}
+use Rattle.image.specs.ImageLawsLengths.{shaped-at, laid, length-kept, length-norms}
 use Rattle.image.specs.ImageLawsPass.{imageWork, once-over, once-image}
 
 module _ (c : Task) (z : Sized c) (m : Option ℕ) (floats : List Float) (words : List ℕ) (path : List Float) where
@@ -52,6 +52,7 @@ module _ (c : Task) (z : Sized c) (m : Option ℕ) (floats : List Float) (words 
 pub mark-image : (c : Task) → Sized c → (p : ℕ) (m : Option ℕ) (floats : List Float) → keptFloats (planOf c) (floatsOf c (at c p) m floats) ≡ floatsOf c (at c p) (some p) floats
 unfolding keptFloats floatsOf
 mark-image c z p m floats =
-    let back = padded (c .limit + 1) plusZero (at c p .field .norms) ∷ floats ∷ [] in
-    rw (part-vectors (laid c z (at c p) (shaped-at c z p) m) back)
-    (put-kept (laid c z (at c p) (shaped-at c z p) m) back (at c p .field .solve .x ++ (at c p .field .solve .r ++ at c p .field .solve .p)) (length-kept c (some p)))
+    let norms = padded (c .limit + 1) plusZero (at c p .field .norms) in
+    let l = laid c z (at c p) (shaped-at c z p) in
+    rw (part-vectors l (norms ∷ (keptVectors c m ++ floats) ∷ []))
+    (put-kept l norms (keptVectors c m) floats (c .limit) (length-norms c z (at c p) (shaped-at c z p)) (length-kept c m) (at c p .field .solve .x ++ (at c p .field .solve .r ++ at c p .field .solve .p)) (length-kept c (some p)))

@@ -59,7 +59,7 @@ part-short l at n = omega (arith, length-take n (drop at l))
 -- ---- both lists of the work
 
 abbrev pub usedBy : Plan → ℕ
-usedBy plan = atNorms (plan .n) (plan .t) + (plan .limit + 1)
+usedBy plan = atNorms (plan .n) (plan .t) + (plan .limit + 1 + 3 * plan .n)
 
 pub record Keeps (plan : Plan) (w w′ : Work) : Type 0 where
   pub floats : Kept-from (usedBy plan) (w .floats) (w′ .floats)
@@ -163,9 +163,9 @@ module _ (plan : Plan) (words : List ℕ) (room : 1 ≤ plan .room) where
         record {
           long = joined-long plan words w fits;
           rest =
-              ap (λ (i : ℕ). drop (i + (plan .limit + 1)) (d ++ beyondFront plan (w .floats))) e
-              ∙ drop-append-add d (beyondFront plan (w .floats)) (plan .limit + 1)
-              ∙ drop-drop (plan .limit + 1) a (w .floats);
+              ap (λ (i : ℕ). drop (i + (plan .limit + 1 + 3 * plan .n)) (d ++ beyondFront plan (w .floats))) e
+              ∙ drop-append-add d (beyondFront plan (w .floats)) (plan .limit + 1 + 3 * plan .n)
+              ∙ drop-drop (plan .limit + 1 + 3 * plan .n) a (w .floats);
         }
 
     pub keeps-once : InRange plan (w .stand) → Keeps plan w (once plan words w)

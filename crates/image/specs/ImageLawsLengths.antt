@@ -2,7 +2,7 @@
 -- Assumes nothing.
 use Prim.Native.Nat.{ℕ, _+_, _*_, _≤_}
 use mathlib.Core.Path.{_≡_, sym, ap, _∙_}
-use mathlib.Core.List.{List, [], _∷_, _++_, append-nil}
+use mathlib.Core.List.{List, [], _∷_, _++_, append-nil, append-assoc}
 use mathlib.Core.Option.{Option, none, some}
 use native.Mathlib.Omega.{arith}
 use lib.ListN.{length, replicate, length-append, length-replicate}
@@ -71,17 +71,17 @@ length-kept c (some q) = three-long (vertexCount c) (at c q .field .solve) (vect
 -- ---- the floats
 
 -- the segments of the floats with these vectors and gradients, and that each is as long as its place says
-abbrev pub fronts : Task → Option ℕ → List Float → List Float → List Float → List Float → List (List Float) → List (List Float)
-fronts c m x r p g =
-    segments (c .vertices) (rightOf c) (zeros (vertexCount c)) (padded (9 * triangleCount c + vertexCount c) plusZero (valuesOf (matrixOf c))) x r p (zeros (vertexCount c)) (keptVectors c m) g
+abbrev pub fronts : Task → List Float → List Float → List Float → List Float → List (List Float) → List (List Float)
+fronts c x r p g =
+    segments (c .vertices) (rightOf c) (zeros (vertexCount c)) (padded (9 * triangleCount c + vertexCount c) plusZero (valuesOf (matrixOf c))) x r p (zeros (vertexCount c)) g
 
-abbrev pub Lies : Task → Option ℕ → List Float → List Float → List Float → List Float → Type 0
-Lies c m x r p g =
+abbrev pub Lies : Task → List Float → List Float → List Float → List Float → Type 0
+Lies c x r p g =
     Laid (vertexCount c) (triangleCount c) (c .vertices) (rightOf c) (zeros (vertexCount c)) (padded (9 * triangleCount c + vertexCount c) plusZero (valuesOf (matrixOf c))) x r p
-    (zeros (vertexCount c)) (keptVectors c m) g
+    (zeros (vertexCount c)) g
 
-module _ (c : Task) (z : Sized c) (s : State) (h : Shaped c s) (m : Option ℕ) where
-  pub laid : Lies c m (s .field .solve .x) (s .field .solve .r) (s .field .solve .p) (s .trail .gradients)
+module _ (c : Task) (z : Sized c) (s : State) (h : Shaped c s) where
+  pub laid : Lies c (s .field .solve .x) (s .field .solve .r) (s .field .solve .p) (s .trail .gradients)
   laid = record {
     vertices = z .vertices;
     right = right-length c;
@@ -91,18 +91,17 @@ module _ (c : Task) (z : Sized c) (s : State) (h : Shaped c s) (m : Option ℕ) 
     r-long = h .vectors .r;
     p-long = h .vectors .p;
     product = length-replicate (vertexCount c) plusZero;
-    kept = length-kept c m;
     gradients = h .gradients;
   }
 
   pub length-norms : length (padded (c .limit + 1) plusZero (s .field .norms)) ≡ c .limit + 1
   length-norms = length-padded (c .limit + 1) plusZero (s .field .norms) (h .norms)
 
-  pub length-floats : (rest : List Float) → length (floatsOf c s m rest) ≡ floatsUsed c + length rest
+  pub length-floats : (m : Option ℕ) (rest : List Float) → length (floatsOf c s m rest) ≡ floatsUsed c + length rest
   unfolding floatsOf off
-  length-floats rest =
-      let l : Lies c m (s .field .solve .x) (s .field .solve .r) (s .field .solve .p) (s .trail .gradients) = laid in
-      length-flat (floatSegments c s m rest) ∙ omega (arith, length-norms)
+  length-floats m rest =
+      let l : Lies c (s .field .solve .x) (s .field .solve .r) (s .field .solve .p) (s .trail .gradients) = laid in
+      length-flat (floatSegments c s m rest) ∙ omega (arith, length-norms, length-append (keptVectors c m) rest, length-kept c m)
 
   pub length-path : (rest : List Float) → length (pathOf c s rest) ≡ 2 * c .room + length rest
   unfolding pathOf
@@ -138,7 +137,11 @@ split {A} ss rest = flat-snoc ss rest ∙ ap (λ (l : List A). l ++ rest) (sym (
 
 pub floats-split : (c : Task) (s : State) (m : Option ℕ) (rest : List Float) → floatsOf c s m rest ≡ floatsOf c s m [] ++ rest
 unfolding floatsOf
-floats-split c s m rest = split (frontSegments c s m ++ (padded (c .limit + 1) plusZero (s .field .norms) ∷ [])) rest
+floats-split c s m rest =
+    let ss = frontSegments c s ++ (padded (c .limit + 1) plusZero (s .field .norms) ∷ []) in
+    flat-snoc ss (keptVectors c m ++ rest)
+    ∙ sym (append-assoc (flat ss) (keptVectors c m) rest)
+    ∙ ap (λ (l : List Float). l ++ rest) (sym (flat-snoc ss (keptVectors c m ++ []) ∙ ap (λ (l : List Float). flat ss ++ l) (append-nil (keptVectors c m))))
 
 pub words-split : (c : Task) (rest : List ℕ) → wordsOf c rest ≡ wordsOf c [] ++ rest
 unfolding wordsOf

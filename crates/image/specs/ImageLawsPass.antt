@@ -36,7 +36,7 @@ use Rattle.work.specs.declared.Stand.{Stand}
 use Rattle.work.specs.declared.Gives.{Gives}
 use Rattle.work.specs.Layout.{atNorms}
 use Rattle.work.specs.Memory.{Stepped, solvedStand, solvedStep, setOut, solveStep, startBy, beginStep, crossStep, stepBy, nextOf, stepOn, Work, work, floatsGiven, pathGiven, frontOf, beyondFront, once}
-use Rattle.image.specs.Image.{givenOf, planOf, standOf, frontSegments, floatsOf, wordsOf, pathOf}
+use Rattle.image.specs.Image.{givenOf, planOf, standOf, keptVectors, frontSegments, floatsOf, wordsOf, pathOf}
 use Rattle.image.specs.ImageLawsPadded.{length-padded, padded-more}
 use Rattle.image.specs.ImageLawsSegments.{laid-x, laid-r, laid-p, laid-gradients, front-segs, beyond-segs, joined-segs, part-vertices, part-values, part-x, part-r, part-p, part-gradients, put-gradients}
 use Rattle.image.specs.ImageLawsLengths.{Shaped, fronts, Lies, shaped-at, laid}
@@ -82,16 +82,20 @@ module _ (c : Task) (z : Sized c) (s : State) (h : Shaped c s) (p : ℕ) (m : Op
   W = wordsOf c words
 
   abbrev F : List Float
-  F = flat (frontSegments c s m)
+  F = flat (frontSegments c s)
+
+  -- the kept vectors, and what was lent beyond them
+  abbrev rest : List Float
+  rest = keptVectors c m ++ floats
 
   abbrev back : List (List Float)
-  back = padded (c .limit + 1) plusZero (s .field .norms) ∷ floats ∷ []
+  back = padded (c .limit + 1) plusZero (s .field .norms) ∷ rest ∷ []
 
   abbrev here : Work
   here = imageOf c s p m floats path
 
-  lies : Lies c m (s .field .solve .x) (s .field .solve .r) (s .field .solve .p) (s .trail .gradients)
-  lies = laid c z s h m
+  lies : Lies c (s .field .solve .x) (s .field .solve .r) (s .field .solve .p) (s .trail .gradients)
+  lies = laid c z s h
 
   front-is : frontOf plan (floatsOf c s m floats) ≡ F
   unfolding floatsOf
@@ -102,18 +106,18 @@ module _ (c : Task) (z : Sized c) (s : State) (h : Shaped c s) (p : ℕ) (m : Op
   beyond-is = beyond-segs lies back
 
   -- a step that gives no norm
-  plain : {x r q g : List Float} → Lies c m x r q g → (f : List Float) → f ≡ flat (fronts c m x r q g []) → f ++ beyondFront plan (floatsOf c s m floats) ≡ flat (fronts c m x r q g back)
+  plain : {x r q g : List Float} → Lies c x r q g → (f : List Float) → f ≡ flat (fronts c x r q g []) → f ++ beyondFront plan (floatsOf c s m floats) ≡ flat (fronts c x r q g back)
   plain {x} {r} {q} {g} l f e =
-      ap (λ (y : List Float). y ++ beyondFront plan (floatsOf c s m floats)) e ∙ ap (λ (y : List Float). flat (fronts c m x r q g []) ++ y) beyond-is ∙ joined-segs l back
+      ap (λ (y : List Float). y ++ beyondFront plan (floatsOf c s m floats)) e ∙ ap (λ (y : List Float). flat (fronts c x r q g []) ++ y) beyond-is ∙ joined-segs l back
 
   -- a step that gives one
-  normed : {x r q g : List Float} → Lies c m x r q g → (f : List Float) (v : Float) → f ≡ flat (fronts c m x r q g []) → length (s .field .norms) + 1 ≤ c .limit + 1
+  normed : {x r q g : List Float} → Lies c x r q g → (f : List Float) (v : Float) → f ≡ flat (fronts c x r q g []) → length (s .field .norms) + 1 ≤ c .limit + 1
       → splice (f ++ beyondFront plan (floatsOf c s m floats)) (atNorms n t + length (s .field .norms)) (v ∷ [])
-      ≡ flat (fronts c m x r q g (padded (c .limit + 1) plusZero (s .field .norms ++ (v ∷ [])) ∷ floats ∷ []))
+      ≡ flat (fronts c x r q g (padded (c .limit + 1) plusZero (s .field .norms ++ (v ∷ [])) ∷ rest ∷ []))
   normed {x} {r} {q} {g} l f v e k =
       ap (λ (y : List Float). splice (y ++ beyondFront plan (floatsOf c s m floats)) (atNorms n t + length (s .field .norms)) (v ∷ [])) e
-      ∙ ap (λ (y : List Float). splice (flat (fronts c m x r q g []) ++ y) (atNorms n t + length (s .field .norms)) (v ∷ [])) beyond-is
-      ∙ norm-segs l (c .limit + 1) (s .field .norms) floats v k
+      ∙ ap (λ (y : List Float). splice (flat (fronts c x r q g []) ++ y) (atNorms n t + length (s .field .norms)) (v ∷ [])) beyond-is
+      ∙ norm-segs l (c .limit + 1) (s .field .norms) rest v k
 
   -- ---- a pass of solving
 
@@ -170,7 +174,7 @@ module _ (c : Task) (z : Sized c) (s : State) (h : Shaped c s) (p : ℕ) (m : Op
   gs-long = gradients-length (c .vertices) (s .field .solve .x) (c .triangles)
 
   abbrev G : List Float
-  G = flat (fronts c m (s .field .solve .x) (s .field .solve .r) (s .field .solve .p) gs [])
+  G = flat (fronts c (s .field .solve .x) (s .field .solve .r) (s .field .solve .p) gs [])
 
   set-image : (otherwise : ℕ) (st : Start) → s .trail .path ≡ [] → Shaped c (state (s .field) (set-out st otherwise gs))
       → written plan here (setOut (standOf p s) G otherwise st) ≡ imageOf c (state (s .field) (set-out st otherwise gs)) (suc p) m floats path

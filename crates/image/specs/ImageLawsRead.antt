@@ -23,7 +23,7 @@ use Rattle.image.specs.Image.{planOf, keptVectors, frontSegments, floats
 use Rattle.image.specs.ImageLawsMatrix.{length-values, length-columns, read-back}
 use Rattle.image.specs.ImageLawsPadded.{length-padded, part-padded}
 use Rattle.image.specs.ImageLawsSegments.{part-vertices, part-right, part-values, part-x, part-r, part-p, part-kept, part-gradients, part-norms, front-segs}
-use Rattle.image.specs.ImageLawsLengths.{Shaped, few, laid, length-norms, length-kept-columns, length-row-starts, wordSegments}
+use Rattle.image.specs.ImageLawsLengths.{Shaped, few, laid, length-norms, length-kept, length-kept-columns, length-row-starts, wordSegments}
 
 -- the front of a padded stretch
 part-stretch : {A : Type 0} (l : List A) (at k : ℕ) (d : A) (xs : List A) (n : ℕ) → part l at k ≡ padded k d xs → length xs ≡ n → n ≤ k → part l at n ≡ xs
@@ -76,52 +76,52 @@ module _ (c : Task) (z : Sized c) (rest : List ℕ) where
 
 module _ (c : Task) (z : Sized c) (s : State) (h : Shaped c s) (m : Option ℕ) (rest : List Float) where
   abbrev back : List (List Float)
-  back = padded (c .limit + 1) plusZero (s .field .norms) ∷ rest ∷ []
+  back = padded (c .limit + 1) plusZero (s .field .norms) ∷ (keptVectors c m ++ rest) ∷ []
 
   pub floats-vertices : part (floatsOf c s m rest) 0 (2 * vertexCount c) ≡ c .vertices
   unfolding floatsOf
-  floats-vertices = part-vertices (laid c z s h m) back
+  floats-vertices = part-vertices (laid c z s h) back
 
   pub floats-right : part (floatsOf c s m rest) (atRight (vertexCount c) (triangleCount c)) (vertexCount c) ≡ rightOf c
   unfolding floatsOf
-  floats-right = part-right (laid c z s h m) back
+  floats-right = part-right (laid c z s h) back
 
   pub floats-x : part (floatsOf c s m rest) (atX (vertexCount c) (triangleCount c)) (vertexCount c) ≡ s .field .solve .x
   unfolding floatsOf
-  floats-x = part-x (laid c z s h m) back
+  floats-x = part-x (laid c z s h) back
 
   pub floats-r : part (floatsOf c s m rest) (atR (vertexCount c) (triangleCount c)) (vertexCount c) ≡ s .field .solve .r
   unfolding floatsOf
-  floats-r = part-r (laid c z s h m) back
+  floats-r = part-r (laid c z s h) back
 
   pub floats-p : part (floatsOf c s m rest) (atP (vertexCount c) (triangleCount c)) (vertexCount c) ≡ s .field .solve .p
   unfolding floatsOf
-  floats-p = part-p (laid c z s h m) back
+  floats-p = part-p (laid c z s h) back
 
-  pub floats-kept : part (floatsOf c s m rest) (atKept (vertexCount c) (triangleCount c)) (3 * vertexCount c) ≡ keptVectors c m
+  pub floats-kept : part (floatsOf c s m rest) (atKept (vertexCount c) (triangleCount c) (c .limit)) (3 * vertexCount c) ≡ keptVectors c m
   unfolding floatsOf
-  floats-kept = part-kept (laid c z s h m) back
+  floats-kept = part-kept (laid c z s h) (padded (c .limit + 1) plusZero (s .field .norms)) (keptVectors c m) rest (c .limit) (length-norms c z s h) (length-kept c m)
 
   pub floats-gradients : part (floatsOf c s m rest) (atGradients (vertexCount c) (triangleCount c)) (2 * triangleCount c) ≡ s .trail .gradients
   unfolding floatsOf
-  floats-gradients = part-gradients (laid c z s h m) back
+  floats-gradients = part-gradients (laid c z s h) back
 
   pub floats-norms : part (floatsOf c s m rest) (atNorms (vertexCount c) (triangleCount c)) (c .limit + 1) ≡ padded (c .limit + 1) plusZero (s .field .norms)
   unfolding floatsOf
-  floats-norms = part-norms (laid c z s h m) (padded (c .limit + 1) plusZero (s .field .norms)) rest (c .limit + 1) (sym (length-norms c z s h m))
+  floats-norms = part-norms (laid c z s h) (padded (c .limit + 1) plusZero (s .field .norms)) (keptVectors c m ++ rest) (c .limit + 1) (sym (length-norms c z s h))
 
   -- the part that a pass works on
-  pub front-image : frontOf (planOf c) (floatsOf c s m rest) ≡ flat (frontSegments c s m)
+  pub front-image : frontOf (planOf c) (floatsOf c s m rest) ≡ flat (frontSegments c s)
   unfolding floatsOf
-  front-image = front-segs (laid c z s h m) back
+  front-image = front-segs (laid c z s h) back
 
   -- the matrix, from the whole of the floats and from that part
   pub matrix-image : (words : List ℕ) → matrix (wordsOf c words) (floatsOf c s m rest) (matrixAt (vertexCount c) (triangleCount c)) ≡ matrixOf c
   unfolding floatsOf
-  matrix-image words = matrix-read c z words (flat (frontSegments c s m ++ back)) (part-values (laid c z s h m) back)
+  matrix-image words = matrix-read c z words (flat (frontSegments c s ++ back)) (part-values (laid c z s h) back)
 
   pub matrix-front : (words : List ℕ) → matrix (wordsOf c words) (frontOf (planOf c) (floatsOf c s m rest)) (matrixAt (vertexCount c) (triangleCount c)) ≡ matrixOf c
-  matrix-front words = rw front-image (matrix-read c z words (flat (frontSegments c s m)) (part-values (laid c z s h m) []))
+  matrix-front words = rw front-image (matrix-read c z words (flat (frontSegments c s)) (part-values (laid c z s h) []))
 
   -- ---- the path
 

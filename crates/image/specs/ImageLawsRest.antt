@@ -89,8 +89,8 @@ module _ (plan : Plan) (words : List ℕ) (room : 1 ≤ plan .room) where
     unfolding toKept
     kept-moves k e =
         let most : w .stand .norms ≤ plan .limit + 1 = norms-most plan (w .stand) h in
-        let vectors = part (w .floats) (atKept n t) (3 * n) in
-        let short : length vectors ≤ 3 * n = part-short (w .floats) (atKept n t) (3 * n) in
+        let vectors = part (w .floats) (atKept n t (plan .limit)) (3 * n) in
+        let short : length vectors ≤ 3 * n = part-short (w .floats) (atKept n t (plan .limit)) (3 * n) in
         let a : Kept-from (usedBy plan) (w .floats) (splice (w .floats) (atX n t) vectors) = kept-splice (usedBy plan) (w .floats) (atX n t) vectors (omega arith) in
         let b : Kept-from (usedBy plan) (w .floats) (splice (splice (w .floats) (atX n t) vectors) (atGradients n t) (zeros (2 * t))) =
         then-splice a (atGradients n t) (zeros (2 * t)) (omega (arith, length-replicate (2 * t) plusZero)) in
@@ -174,7 +174,7 @@ module _ (plan : Plan) (words : List ℕ) (room : 1 ≤ plan .room) where
 
   pub mark-keeps : (floats : List Float) → Kept-from (usedBy plan) floats (keptFloats plan floats)
   unfolding keptFloats
-  mark-keeps floats = kept-splice (usedBy plan) floats (atKept n t) (part floats (atX n t) (3 * n)) (omega (arith, part-short floats (atX n t) (3 * n)))
+  mark-keeps floats = kept-splice (usedBy plan) floats (atKept n t (plan .limit)) (part floats (atX n t) (3 * n)) (omega (arith, part-short floats (atX n t) (3 * n)))
 
 -- ---- a call
 

@@ -30,7 +30,7 @@ module _ (c : Task) (z : Sized c) where
     words-sound = λ words. Sound.words-sound c z words;
     floats-long = λ p m floats h k. length-floats c z (at c p) (shaped-at c z p) m floats;
     words-long = λ words. length-words c z words;
-    path-long = λ p path h. length-path c z (at c p) (shaped-at c z p) none path;
+    path-long = λ p path h. length-path c z (at c p) (shaped-at c z p) path;
   }
 
   pub parts : Parts c

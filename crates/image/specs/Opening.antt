@@ -22,7 +22,7 @@ use Rattle.sheet.specs.ItemLaws.{IsAccepted}
 use Rattle.model.specs.Task.{Task, vertexCount, triangleCount, bothGiven, task}
 use Rattle.model.specs.Run.{matrixOf, rightOf}
 use Rattle.work.specs.declared.Plan.{Plan}
-use Rattle.work.specs.Layout.{atRight, atRow, atValues, atKept, atNorms, atNeighbours, atTags, atStarts, atColumns, atHeads, atLinks, atRowColumns, matrixAt}
+use Rattle.work.specs.Layout.{atRight, atRow, atValues, atGradients, atNorms, atNeighbours, atTags, atStarts, atColumns, atHeads, atLinks, atRowColumns, matrixAt}
 use Rattle.work.specs.Memory.{begunAgain, vectorsPut}
 use Rattle.work.specs.declared.Run.{Run}
 use Rattle.model.specs.Machine.{fresh, needs}
@@ -125,12 +125,12 @@ pub record Begins (plan : Plan) (words : List ℕ) (floats : ℕ) : Type 0 where
   pub n-most : plan .n ≤ maxVertices
   pub t-most : plan .t ≤ maxTriangles
   pub limit-most : plan .limit ≤ maxLimit
-  pub floats-fit : atNorms (plan .n) (plan .t) + (plan .limit + 1) ≤ floats
+  pub floats-fit : atNorms (plan .n) (plan .t) + (plan .limit + 1) + 3 * plan .n ≤ floats
   pub sound : Sound words (matrixAt (plan .n) (plan .t))
 
--- +0 at the kept vectors, the gradients and the norms, which stand in a row
+-- +0 at the gradients, the norms and the kept vectors, which stand in a row
 abbrev pub noneKept : Plan → List Float → List Float
-noneKept plan floats = splice floats (atKept (plan .n) (plan .t)) (replicate (3 * plan .n + 2 * plan .t + (plan .limit + 1)) plusZero)
+noneKept plan floats = splice floats (atGradients (plan .n) (plan .t)) (replicate (2 * plan .t + (plan .limit + 1) + 3 * plan .n) plusZero)
 
 -- the vectors of s, and the first norm
 unfoldable pub begunFloats : Plan → Solve → List Float → List Float

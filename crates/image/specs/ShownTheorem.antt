@@ -48,14 +48,6 @@ module _ {A : Type 0} (k : ℕ) (z : A) (l : List A) where
 -- ---- the parts of the buffers
 
 module _ (c : Task) (good : Sized c) (parts : Parts c) where
-  length-kept : (m : Option ℕ) → MarkIn m (lastPlace c) → length (keptVectors c m) ≡ 3 * vertexCount c
-  length-kept none h = length-replicate (3 * vertexCount c) plusZero
-  length-kept (some q) h =
-      let x : _ = parts .x-long q h in
-      let r : _ = parts .r-long q h in
-      let p : _ = parts .p-long q h in
-      rw (length-append, length-append) (omega arith)
-
   module _ (s : Counter) (floats : List Float) (w : Within (lastPlace c) s) where
     abbrev segments : List (List Float)
     segments = floatSegments c (at c (s .place)) (s .mark) floats
@@ -69,7 +61,7 @@ module _ (c : Task) (good : Sized c) (parts : Parts c) where
         let a : _ = length-padded (9 * triangleCount c + vertexCount c) plusZero (valuesOf (matrixOf c)) (parts .values-long) in
         omega arith
 
-    off-gradients : atGradients (vertexCount c) (triangleCount c) ≡ off segments 9
+    off-gradients : atGradients (vertexCount c) (triangleCount c) ≡ off segments 8
     unfolding off
     off-gradients =
         let v : _ = good .vertices in
@@ -79,14 +71,13 @@ module _ (c : Task) (good : Sized c) (parts : Parts c) where
         let x : _ = parts .x-long (s .place) (w .place-in) in
         let r : _ = parts .r-long (s .place) (w .place-in) in
         let p : _ = parts .p-long (s .place) (w .place-in) in
-        let k : _ = length-kept (s .mark) (w .mark-in) in
         omega arith
 
-    off-norms : atNorms (vertexCount c) (triangleCount c) ≡ off segments 10
+    off-norms : atNorms (vertexCount c) (triangleCount c) ≡ off segments 9
     off-norms =
         let g : _ = parts .gradients-long (s .place) (w .place-in) in
         let e : _ = off-gradients in
-        let n : off segments 10 ≡ off segments 9 + length (at c (s .place) .trail .gradients) = off-suc segments 9 in
+        let n : off segments 9 ≡ off segments 8 + length (at c (s .place) .trail .gradients) = off-suc segments 8 in
         omega arith
 
     abbrev norms : List Float
@@ -99,7 +90,7 @@ module _ (c : Task) (good : Sized c) (parts : Parts c) where
     gradients-part : part (floatsOf c (at c (s .place)) (s .mark) floats) (atGradients (vertexCount c) (triangleCount c)) (2 * triangleCount c) ≡ at c (s .place) .trail .gradients
     unfolding floatsOf
     gradients-part =
-        part-seg segments 9 (atGradients (vertexCount c) (triangleCount c)) (2 * triangleCount c) off-gradients (omega arith) (sym (parts .gradients-long (s .place) (w .place-in)))
+        part-seg segments 8 (atGradients (vertexCount c) (triangleCount c)) (2 * triangleCount c) off-gradients (omega arith) (sym (parts .gradients-long (s .place) (w .place-in)))
 
     norms-part : part (floatsOf c (at c (s .place)) (s .mark) floats) (atNorms (vertexCount c) (triangleCount c)) (length norms) ≡ norms
     unfolding floatsOf
@@ -107,7 +98,7 @@ module _ (c : Task) (good : Sized c) (parts : Parts c) where
         let h : _ = parts .norms-long (s .place) (w .place-in) in
         let l : _ = length-padded (c .limit + 1) plusZero norms h in
         let o : _ = off-norms in
-        part-within segments 10 0 (atNorms (vertexCount c) (triangleCount c)) (length norms) (omega arith) (omega arith) (omega arith) ∙ padded-filled (c .limit + 1) plusZero norms
+        part-within segments 9 0 (atNorms (vertexCount c) (triangleCount c)) (length norms) (omega arith) (omega arith) (omega arith) ∙ padded-filled (c .limit + 1) plusZero norms
 
     beyond-norms : part (floatsOf c (at c (s .place)) (s .mark) floats) (atNorms (vertexCount c) (triangleCount c) + length norms) (c .limit + 1 - length norms)
         ≡ replicate (c .limit + 1 - length norms) plusZero
@@ -116,7 +107,7 @@ module _ (c : Task) (good : Sized c) (parts : Parts c) where
         let h : _ = parts .norms-long (s .place) (w .place-in) in
         let l : _ = length-padded (c .limit + 1) plusZero norms h in
         let o : _ = off-norms in
-        part-within segments 10 (length norms) (atNorms (vertexCount c) (triangleCount c) + length norms) (c .limit + 1 - length norms) (omega arith) (omega arith) (omega arith)
+        part-within segments 9 (length norms) (atNorms (vertexCount c) (triangleCount c) + length norms) (c .limit + 1 - length norms) (omega arith) (omega arith) (omega arith)
         ∙ padded-beyond (c .limit + 1) plusZero norms
 
   module _ (p : ℕ) (rest : List Float) (h : p ≤ lastPlace c) where

@@ -2,7 +2,7 @@
 -- Assumes nothing.
 use Prim.Native.Nat.{ℕ, zero, suc, _+_, _*_, _≤_, _<_}
 use mathlib.Core.Path.{_≡_, refl, sym, ap, _∙_}
-use mathlib.Core.List.{List, [], _∷_, _++_, append-nil}
+use mathlib.Core.List.{List, [], _∷_, _++_, append-nil, append-assoc}
 use mathlib.Core.Option.{none}
 use native.Mathlib.Omega.{arith}
 use native.Mathlib.Nat.{add-assoc}
@@ -13,7 +13,7 @@ use Rattle.binary64.specs.Constants.{plusZero}
 use Rattle.binary64.specs.Root.{root}
 use Rattle.stretch.specs.Stretch.{part, splice, flat, off}
 use Rattle.stretch.specs.StretchLaws.{length-splice, part-splice-same}
-use Rattle.stretch.specs.SegmentLaws.{part-seg, splice-seg, splice-segs}
+use Rattle.stretch.specs.SegmentLaws.{flat-append, part-seg, splice-seg, splice-segs}
 use Rattle.mesh.specs.Element as element
 use Rattle.laplace.specs.declared.Places.{Places}
 use Rattle.laplace.specs.Assembly.{rightSide}
@@ -26,13 +26,13 @@ use Rattle.model.specs.Task.{Task, vertexCount, triangleCount}
 use Rattle.model.specs.Run.{place0, matrixOf, rightOf}
 use Rattle.model.specs.Sized.{Sized, Vectors}
 use Rattle.model.specs.SizeLaws.{matrix-length, right-length, begun-vectors}
-use Rattle.work.specs.Layout.{atRight, atRow, atValues, atKept, atNorms, atNeighbours, atTags, atStarts, atColumns, atHeads, atLinks, atRowColumns}
+use Rattle.work.specs.Layout.{atRight, atRow, atValues, atGradients, atNorms, atNeighbours, atTags, atStarts, atColumns, atHeads, atLinks, atRowColumns}
 use Rattle.work.specs.Memory.{begunAgain}
 use Rattle.image.specs.Image.{planOf, floatsOf, wordsOf, floatsUsed, wordsUsed}
 use Rattle.image.specs.ImageLawsLengths.{length-kept-values, length-kept-columns, length-row-starts}
 use Rattle.image.specs.ImageLawsPadded.{padded-nil, padded-more}
 use Rattle.image.specs.ImageLawsRead.{matrix-read}
-use Rattle.image.specs.ImageLawsSegments.{zeros, segments, Laid, laid-x, laid-r, laid-p, laid-product, laid-kept, laid-gradients, part-right, part-values, put-x, put-r, put-p, put-product, put-norms}
+use Rattle.image.specs.ImageLawsSegments.{zeros, segments, Laid, laid-x, laid-r, laid-p, laid-product, laid-gradients, part-right, part-values, put-x, put-r, put-p, put-product, put-norms}
 use Rattle.image.specs.ImageLawsSound.{below-each}
 use Rattle.image.specs.Opening.{meshFloats, meshWords, placesAt, assembledFloats, LaidOut, noneKept, begunFloats}
 
@@ -65,6 +65,11 @@ module _ {A : Type 0} where
 
 -- ---- the floats
 
+-- two segments as one
+two-joined : (ss : List (List Float)) (k rest : List Float) → flat (ss ++ (k ∷ rest ∷ [])) ≡ flat (ss ++ ((k ++ rest) ∷ []))
+unfolding flat
+two-joined ss k rest = flat-append ss (k ∷ rest ∷ []) ∙ ap (λ (y : List Float). flat ss ++ y) (sym (append-assoc k rest [])) ∙ sym (flat-append ss ((k ++ rest) ∷ []))
+
 module _ (c : Task) (z : Sized c) where
   abbrev n : ℕ
   n = vertexCount c
@@ -91,16 +96,16 @@ module _ (c : Task) (z : Sized c) where
   unfolding flat
   zeros-three i j k = rw (append-nil, replicate-append-replicate, replicate-append-replicate, add-assoc)
 
-  module _ {v b w a x r p q k g : List Float} (l : Laid n t v b w a x r p q k g) (h rest : List Float) (long : length h ≡ norms) where
+  module _ {v b w a x r p q g : List Float} (l : Laid n t v b w a x r p q g) (h k rest : List Float) (long : length h ≡ norms) (kept : length k ≡ 3 * n) where
     -- the mesh and its assembly
-    floats-assembled : assembledFloats c (flat (segments v b w a x r p q k g (h ∷ rest ∷ []))) ≡ flat (segments (c .vertices) (rightOf c) (zeros n) values x r p q k g (h ∷ rest ∷ []))
+    floats-assembled : assembledFloats c (flat (segments v b w a x r p q g (h ∷ k ∷ rest ∷ []))) ≡ flat (segments (c .vertices) (rightOf c) (zeros n) values x r p q g (h ∷ k ∷ rest ∷ []))
     unfolding assembledFloats off
     floats-assembled =
         let ev : length (c .vertices) ≡ 2 * n = z .vertices in
         let eb : length (rightOf c) ≡ n = right-length c in
         let ew : length (zeros n) ≡ n = zeros-long n in
         let ea : length values ≡ 9 * t + n = length-kept-values c z in
-        let back = x ∷ r ∷ p ∷ q ∷ k ∷ g ∷ h ∷ rest ∷ [] in
+        let back = x ∷ r ∷ p ∷ q ∷ g ∷ h ∷ k ∷ rest ∷ [] in
         rw (
           splice-seg (v ∷ b ∷ w ∷ a ∷ back) 0 0 (c .vertices) refl (omega arith) (omega arith),
           splice-seg (c .vertices ∷ b ∷ w ∷ a ∷ back) 1 (atRight n t) (rightOf c) (omega arith) (omega arith) (omega arith),
@@ -108,19 +113,20 @@ module _ (c : Task) (z : Sized c) where
           splice-seg (c .vertices ∷ rightOf c ∷ zeros n ∷ a ∷ back) 3 (atValues n t) values (omega arith) (omega arith) (omega arith),
         )
 
-    -- kept vectors, gradients and norms
-    floats-none : noneKept (planOf c) (flat (segments v b w a x r p q k g (h ∷ rest ∷ []))) ≡ flat (segments v b w a x r p q (zeros (3 * n)) (zeros (2 * t)) (zeros norms ∷ rest ∷ []))
+    -- gradients, norms and kept vectors
+    floats-none : noneKept (planOf c) (flat (segments v b w a x r p q g (h ∷ k ∷ rest ∷ []))) ≡ flat (segments v b w a x r p q (zeros (2 * t)) (zeros norms ∷ (zeros (3 * n) ++ rest) ∷ []))
     unfolding off part flat splice
     floats-none =
-        let e : length (flat (zeros (3 * n) ∷ zeros (2 * t) ∷ zeros norms ∷ [])) ≡ length (k ++ (g ++ (h ++ []))) =
-        ap length (zeros-three (3 * n) (2 * t) norms) ∙ zeros-long (3 * n + 2 * t + norms) ∙ sym (simp (length-append, append-nil) (omega arith)) in
-        ap (λ (y : List Float). splice (flat (segments v b w a x r p q k g (h ∷ rest ∷ []))) (atKept n t) y) (sym (zeros-three (3 * n) (2 * t) norms))
-        ∙ splice-segs (segments v b w a x r p q k g (h ∷ rest ∷ [])) 8 (atKept n t) (zeros (3 * n) ∷ zeros (2 * t) ∷ zeros norms ∷ []) (omega arith) (omega arith) e
+        let e : length (flat (zeros (2 * t) ∷ zeros norms ∷ zeros (3 * n) ∷ [])) ≡ length (g ++ (h ++ (k ++ []))) =
+        ap length (zeros-three (2 * t) norms (3 * n)) ∙ zeros-long (2 * t + norms + 3 * n) ∙ sym (simp (length-append, append-nil) (omega arith)) in
+        ap (λ (y : List Float). splice (flat (segments v b w a x r p q g (h ∷ k ∷ rest ∷ []))) (atGradients n t) y) (sym (zeros-three (2 * t) norms (3 * n)))
+        ∙ splice-segs (segments v b w a x r p q g (h ∷ k ∷ rest ∷ [])) 8 (atGradients n t) (zeros (2 * t) ∷ zeros norms ∷ zeros (3 * n) ∷ []) (omega arith) (omega arith) e
+        ∙ two-joined (segments v b w a x r p q (zeros (2 * t)) (zeros norms ∷ [])) (zeros (3 * n)) rest
 
   -- the vectors and the first norm
-  module _ {v b w a x r p q k g : List Float} (l : Laid n t v b w a x r p q k g) (rest : List Float) where
-    floats-begun : begunFloats (planOf c) first (flat (segments v b w a x r p q k g (zeros norms ∷ rest ∷ [])))
-        ≡ flat (segments v b w a (first .x) (first .r) (first .p) (zeros n) k g (padded norms plusZero (root (first .rs) ∷ []) ∷ rest ∷ []))
+  module _ {v b w a x r p q g : List Float} (l : Laid n t v b w a x r p q g) (rest : List Float) where
+    floats-begun : begunFloats (planOf c) first (flat (segments v b w a x r p q g (zeros norms ∷ rest ∷ [])))
+        ≡ flat (segments v b w a (first .x) (first .r) (first .p) (zeros n) g (padded norms plusZero (root (first .rs) ∷ []) ∷ rest ∷ []))
     unfolding begunFloats
     floats-begun =
         let vs : Vectors n first = first-vectors in
@@ -143,15 +149,15 @@ module _ (c : Task) (z : Sized c) where
         )
 
     -- what is begun from
-    begun-from : (words : List ℕ) → b ≡ rightOf c → a ≡ values → begunAgain (planOf c) (wordsOf c words) (flat (segments v b w a x r p q k g (zeros norms ∷ rest ∷ []))) ≡ first
+    begun-from : (words : List ℕ) → b ≡ rightOf c → a ≡ values → begunAgain (planOf c) (wordsOf c words) (flat (segments v b w a x r p q g (zeros norms ∷ rest ∷ []))) ≡ first
     begun-from words eb ea =
         let back = zeros norms ∷ rest ∷ [] in
-        rw (matrix-read c z words (flat (segments v b w a x r p q k g back)) (part-values l back ∙ ea), part-right l back, eb)
+        rw (matrix-read c z words (flat (segments v b w a x r p q g back)) (part-values l back ∙ ea), part-right l back, eb)
 
   -- ---- all of it, from any floats that are long enough
 
   abbrev lengths : List ℕ
-  lengths = (2 * n) ∷ n ∷ n ∷ (9 * t + n) ∷ n ∷ n ∷ n ∷ n ∷ (3 * n) ∷ (2 * t) ∷ norms ∷ []
+  lengths = (2 * n) ∷ n ∷ n ∷ (9 * t + n) ∷ n ∷ n ∷ n ∷ n ∷ (2 * t) ∷ norms ∷ (3 * n) ∷ []
 
   module _ (floats : List Float) (fits : floatsUsed c ≤ length floats) where
     abbrev seg : ℕ → List Float
@@ -161,7 +167,7 @@ module _ (c : Task) (z : Sized c) where
     unfolding total
     seg-long i k = length-cut lengths floats (omega arith) i k
 
-    laid-floats : Laid n t (seg 0) (seg 1) (seg 2) (seg 3) (seg 4) (seg 5) (seg 6) (seg 7) (seg 8) (seg 9)
+    laid-floats : Laid n t (seg 0) (seg 1) (seg 2) (seg 3) (seg 4) (seg 5) (seg 6) (seg 7) (seg 8)
     laid-floats = record {
       vertices = seg-long 0 (omega arith);
       right = seg-long 1 (omega arith);
@@ -171,23 +177,22 @@ module _ (c : Task) (z : Sized c) where
       r-long = seg-long 5 (omega arith);
       p-long = seg-long 6 (omega arith);
       product = seg-long 7 (omega arith);
-      kept = seg-long 8 (omega arith);
-      gradients = seg-long 9 (omega arith);
+      gradients = seg-long 8 (omega arith);
     }
 
-    cut-floats : floats ≡ flat (segments (seg 0) (seg 1) (seg 2) (seg 3) (seg 4) (seg 5) (seg 6) (seg 7) (seg 8) (seg 9) (seg 10 ∷ drop (floatsUsed c) floats ∷ []))
+    cut-floats : floats ≡ flat (segments (seg 0) (seg 1) (seg 2) (seg 3) (seg 4) (seg 5) (seg 6) (seg 7) (seg 8) (seg 9 ∷ seg 10 ∷ drop (floatsUsed c) floats ∷ []))
     unfolding cut total
     cut-floats =
         let e : total lengths ≡ floatsUsed c = omega arith in
         let d : seg 11 ≡ drop (floatsUsed c) floats = last-cut lengths floats ∙ ap (λ (k : ℕ). drop k floats) e in
         sym (flat-cut lengths floats)
-        ∙ ap (λ (s : List Float). flat (segments (seg 0) (seg 1) (seg 2) (seg 3) (seg 4) (seg 5) (seg 6) (seg 7) (seg 8) (seg 9) (seg 10 ∷ s ∷ []))) d
+        ∙ ap (λ (s : List Float). flat (segments (seg 0) (seg 1) (seg 2) (seg 3) (seg 4) (seg 5) (seg 6) (seg 7) (seg 8) (seg 9 ∷ seg 10 ∷ s ∷ []))) d
 
     abbrev rest : List Float
     rest = drop (floatsUsed c) floats
 
-    -- as assembled, and with the kept vectors, the gradients and the norms cleared
-    laid-assembled : Laid n t (c .vertices) (rightOf c) (zeros n) values (seg 4) (seg 5) (seg 6) (seg 7) (zeros (3 * n)) (zeros (2 * t))
+    -- as assembled, and with the gradients, the norms and the kept vectors cleared
+    laid-assembled : Laid n t (c .vertices) (rightOf c) (zeros n) values (seg 4) (seg 5) (seg 6) (seg 7) (zeros (2 * t))
     laid-assembled = record {
       vertices = z .vertices;
       right = right-length c;
@@ -197,25 +202,24 @@ module _ (c : Task) (z : Sized c) where
       r-long = seg-long 5 (omega arith);
       p-long = seg-long 6 (omega arith);
       product = seg-long 7 (omega arith);
-      kept = zeros-long (3 * n);
       gradients = zeros-long (2 * t);
     }
 
     abbrev ready : List Float
     ready = noneKept (planOf c) (assembledFloats c floats)
 
-    floats-ready : ready ≡ flat (segments (c .vertices) (rightOf c) (zeros n) values (seg 4) (seg 5) (seg 6) (seg 7) (zeros (3 * n)) (zeros (2 * t)) (zeros norms ∷ rest ∷ []))
+    floats-ready : ready ≡ flat (segments (c .vertices) (rightOf c) (zeros n) values (seg 4) (seg 5) (seg 6) (seg 7) (zeros (2 * t)) (zeros norms ∷ (zeros (3 * n) ++ rest) ∷ []))
     floats-ready =
-        let k = laid-kept laid-assembled {y = seg 8} (seg-long 8 (omega arith)) in
-        let g = laid-gradients k {y = seg 9} (seg-long 9 (omega arith)) in
-        let long : length (seg 10) ≡ norms = seg-long 10 (omega arith) in
+        let g = laid-gradients laid-assembled {y = seg 8} (seg-long 8 (omega arith)) in
+        let long : length (seg 9) ≡ norms = seg-long 9 (omega arith) in
+        let kept : length (seg 10) ≡ 3 * n = seg-long 10 (omega arith) in
         ap (λ (f : List Float). noneKept (planOf c) (assembledFloats c f)) cut-floats
-        ∙ ap (λ (f : List Float). noneKept (planOf c) f) (floats-assembled laid-floats (seg 10) rest long)
-        ∙ floats-none g (seg 10) rest long
+        ∙ ap (λ (f : List Float). noneKept (planOf c) f) (floats-assembled laid-floats (seg 9) (seg 10) rest long kept)
+        ∙ floats-none g (seg 9) (seg 10) rest long kept
 
     module _ (words : List ℕ) where
       vectors-begun : begunAgain (planOf c) (wordsOf c words) ready ≡ first
-      vectors-begun = ap (λ (f : List Float). begunAgain (planOf c) (wordsOf c words) f) floats-ready ∙ begun-from laid-assembled rest words refl refl
+      vectors-begun = ap (λ (f : List Float). begunAgain (planOf c) (wordsOf c words) f) floats-ready ∙ begun-from laid-assembled (zeros (3 * n) ++ rest) words refl refl
 
       pub sum-opened : begunAgain (planOf c) (wordsOf c words) ready .rs ≡ place0 c .field .solve .rs
       unfolding place0
@@ -224,7 +228,7 @@ module _ (c : Task) (z : Sized c) where
       pub floats-opened : begunFloats (planOf c) (begunAgain (planOf c) (wordsOf c words) ready) ready ≡ floatsOf c (place0 c) none rest
       unfolding floatsOf place0
       floats-opened =
-          ap (λ (s : Solve). begunFloats (planOf c) s ready) vectors-begun ∙ ap (λ (f : List Float). begunFloats (planOf c) first f) floats-ready ∙ floats-begun laid-assembled rest
+          ap (λ (s : Solve). begunFloats (planOf c) s ready) vectors-begun ∙ ap (λ (f : List Float). begunFloats (planOf c) first f) floats-ready ∙ floats-begun laid-assembled (zeros (3 * n) ++ rest)
 
 -- ---- the words
 

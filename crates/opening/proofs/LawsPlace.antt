@@ -40,7 +40,7 @@ use Rattle.model.specs.SizeLaws.{sized}
 use Rattle.model.specs.Machine.{needs}
 use Rattle.work.specs.declared.Plan.{Plan}
 use Rattle.work.specs.declared.Run.{Run}
-use Rattle.work.specs.Layout.{atKept, atNorms, matrixAt, vectorsAt}
+use Rattle.work.specs.Layout.{atGradients, atNorms, matrixAt, vectorsAt}
 use Rattle.work.specs.Memory.{begunAgain}
 use Rattle.work.specs.Record.{newRun, noRun}
 use Rattle.image.specs.declared.Answer.{Answer}
@@ -122,12 +122,12 @@ starts plan words long long₁ b e m v em ev =
       };
     })
 
-pub begins-is : (plan : Plan) (words : List ℕ) (floats floats₁ floats₂ : List Float) (kept norms : ℕ) (m : Csr) (v : Vectors) (rs norm : Float)
-    → kept ≡ atKept (plan .n) (plan .t) → floats₁ ≡ splice floats kept (replicate (3 * plan .n + 2 * plan .t + (plan .limit + 1)) plusZero) → m ≡ matrixAt (plan .n) (plan .t) → v ≡ vectorsAt (plan .n) (plan .t)
+pub begins-is : (plan : Plan) (words : List ℕ) (floats floats₁ floats₂ : List Float) (at norms : ℕ) (m : Csr) (v : Vectors) (rs norm : Float)
+    → at ≡ atGradients (plan .n) (plan .t) → floats₁ ≡ splice floats at (replicate (2 * plan .t + (plan .limit + 1) + 3 * plan .n) plusZero) → m ≡ matrixAt (plan .n) (plan .t) → v ≡ vectorsAt (plan .n) (plan .t)
     → Solving.Begun floats₁ floats₂ (m .rows) v (startOf words floats₁ m (2 * plan .n)) rs → norms ≡ atNorms (plan .n) (plan .t) → norm ≡ root rs → Begun plan words floats rs (set floats₂ norms norm)
 unfolding placed begunFloats
-begins-is plan words floats floats₁ floats₂ kept norms m v rs norm ek ef em ev g en er =
-    let f : floats₁ ≡ noneKept plan floats = ef ∙ ap (λ (k : ℕ). splice floats k (replicate (3 * plan .n + 2 * plan .t + (plan .limit + 1)) plusZero)) ek in
+begins-is plan words floats floats₁ floats₂ at norms m v rs norm ek ef em ev g en er =
+    let f : floats₁ ≡ noneKept plan floats = ef ∙ ap (λ (k : ℕ). splice floats k (replicate (2 * plan .t + (plan .limit + 1) + 3 * plan .n) plusZero)) ek in
     let s : rs ≡ begunAgain plan words (noneKept plan floats) .rs = g .said ∙ rw (em, f) in
     record {
       sum = s;

@@ -167,15 +167,15 @@ fn lay_out(sheet: &[u8], h: Header, floats: &mut [f64], words: &mut [u32])
     laplace::assemble(floats, words, n, t, at, Run::TINY);
 }
 
-// Place 0 of the field: nothing kept, no gradients, the vectors begun, and the first norm. Answers r·r.
+// Place 0 of the field: no gradients, nothing kept, the vectors begun, and the first norm. Answers r·r.
 fn begin(plan: Plan, floats: &mut [f64], words: &[u32]) -> f64
     requires { ⌜ Opening.Begins plan (now words) (length (now floats)) ⌝ }
     ensures { λ r. ⌜ Opening.Begun plan (now (words .entry)) (now (floats .entry)) r (now (floats .exit)) ⌝ }
 {
     let n = plan.n;
     let t = plan.t;
-    let kept = work::layout::at_kept(n, t);
-    stretch::fill(floats, kept, 3 * n + 2 * t + (plan.limit + 1), 0.0);
+    let gradients = work::layout::at_gradients(n, t);
+    stretch::fill(floats, gradients, 2 * t + (plan.limit + 1) + 3 * n, 0.0);
     let m = work::layout::matrix_at(n, t);
     let at = work::layout::vectors_at(n, t);
     let rs = conjugate::begin(floats, words, m, at, 2 * n);

@@ -125,7 +125,7 @@ module _ (plan : Plan) (s : Stand) (m p : List Float) where
         path = dl′ .1 ∙ ap (pathGiven plan b (d .gives)) ep ∙ ap (λ (g : Gives). pathGiven plan b g (pathErased s p)) (o′ .gives);
       }
 
-  pub kept-comes : (k : Kept) (src at : ℕ) (m₁ m₂ m₃ : List Float) (r : Stand) (p′ : List Float) → src ≡ atKept (plan .n) (plan .t) → at ≡ atX (plan .n) (plan .t)
+  pub kept-comes : (k : Kept) (src at : ℕ) (m₁ m₂ m₃ : List Float) (r : Stand) (p′ : List Float) → src ≡ atKept (plan .n) (plan .t) (plan .limit) → at ≡ atX (plan .n) (plan .t)
       → m₁ ≡ splice m at (part m src (3 * plan .n)) → m₂ ≡ gradientsErased plan m₁ → m₃ ≡ normsErased plan s (k .norms) m₂ → p′ ≡ pathErased s p
       → r ≡ pathless (k .place) (k .rs) (k .norms) 0 → Comes (toKept plan k (work m p s)) r m₃ p′
   unfolding toKept
@@ -135,7 +135,7 @@ module _ (plan : Plan) (s : Stand) (m p : List Float) where
     path = h;
   }
 
-pub kept-floats : (plan : Plan) (m m′ : List Float) (src at : ℕ) → src ≡ atX (plan .n) (plan .t) → at ≡ atKept (plan .n) (plan .t) → m′ ≡ splice m at (part m src (3 * plan .n)) → m′ ≡ keptFloats plan m
+pub kept-floats : (plan : Plan) (m m′ : List Float) (src at : ℕ) → src ≡ atX (plan .n) (plan .t) → at ≡ atKept (plan .n) (plan .t) (plan .limit) → m′ ≡ splice m at (part m src (3 * plan .n)) → m′ ≡ keptFloats plan m
 unfolding keptFloats
 kept-floats plan m m′ src at es ea e = e ∙ rw (es, ea)
 

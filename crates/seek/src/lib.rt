@@ -12,7 +12,7 @@ ghost use mathlib.Core.Path.{_≡_};
 ghost use Prim.Native.Nat.{_+_, _*_, _≤_};
 ghost use lib.ListN.{length};
 ghost use Rattle.model.specs.SolvedPlace.{solvedAt};
-ghost use Rattle.work.specs.Layout.{atGradients, atNorms};
+ghost use Rattle.work.specs.Layout.{atNorms, atKept};
 ghost use Rattle.work.specs.Memory as Memory;
 ghost use Rattle.work.specs.Memory.{work, originOf, fromMark, gradientsErased, normsErased, pathErased, keptFloats};
 ghost use Rattle.work.specs.Ready.{Ready, Comes};
@@ -135,7 +135,7 @@ fn to_kept(floats: &mut [f64], path: &mut [f64], plan: Plan, stand: Stand, k: Ke
     requires { ⌜ Erasable plan stand (now floats) (now path) ⌝ }
     ensures { λ r. ⌜ Comes (Memory.toKept plan k (work (now (floats .entry)) (now (path .entry)) stand)) r (now (floats .exit)) (now (path .exit)) ⌝ }
 {
-    let from = layout::at_kept(plan.n, plan.t);
+    let from = layout::at_kept(plan.n, plan.t, plan.limit);
     let to = layout::at_x(plan.n, plan.t);
     stretch::copy(floats, from, to, 3 * plan.n);
     erase_gradients(floats, plan);
@@ -220,10 +220,10 @@ pub fn seek(
 
 // The mark's copy of the vectors.
 pub fn keep(floats: &mut [f64], plan: Plan)
-    requires { ⌜ (plan .n ≤ 4096) × (plan .t ≤ 8192) × (atGradients (plan .n) (plan .t) ≤ length (now floats)) ⌝ }
+    requires { ⌜ (plan .n ≤ 4096) × (plan .t ≤ 8192) × (plan .limit ≤ 100000) × (atKept (plan .n) (plan .t) (plan .limit) + 3 * plan .n ≤ length (now floats)) ⌝ }
     ensures { λ _. ⌜ now (floats .exit) ≡ keptFloats plan (now (floats .entry)) ⌝ }
 {
     let src = layout::at_x(plan.n, plan.t);
-    let at = layout::at_kept(plan.n, plan.t);
+    let at = layout::at_kept(plan.n, plan.t, plan.limit);
     stretch::copy(floats, src, at, 3 * plan.n);
 }

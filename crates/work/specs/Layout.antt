@@ -1,5 +1,5 @@
 -- Where each list of a run stands in the lent buffers, for n vertices and T triangles: one order for each buffer. Definitions only. Assumes nothing.
--- Floats: vertices 2n, right side n, row buffer n, values 9T + n, x n, r n, p n, product n, kept x r p 3n, gradients 2T, norms limit + 1, spare.
+-- Floats: vertices 2n, right side n, row buffer n, values 9T + n, x n, r n, p n, product n, gradients 2T, which a pass works on; norms limit + 1; kept x r p 3n; spare.
 -- Words: triangles 3T, neighbours 3T, tags n, row starts n + 1, columns 9T + n, heads n, links 3T, row columns n, spare. Path: points 2 room.
 use Prim.Native.Nat.{ℕ, _+_, _*_}
 use Rattle.sparse.specs.declared.Csr.{Csr}
@@ -27,15 +27,16 @@ atP n t = 7 * n + 9 * t
 abbrev pub atProduct : ℕ → ℕ → ℕ
 atProduct n t = 8 * n + 9 * t
 
-abbrev pub atKept : ℕ → ℕ → ℕ
-atKept n t = 9 * n + 9 * t
-
 abbrev pub atGradients : ℕ → ℕ → ℕ
-atGradients n t = 12 * n + 9 * t
+atGradients n t = 9 * n + 9 * t
 
 -- the norms, and so the end of what a pass works on
 abbrev pub atNorms : ℕ → ℕ → ℕ
-atNorms n t = 12 * n + 11 * t
+atNorms n t = 9 * n + 11 * t
+
+-- the kept vectors, behind the norms
+abbrev pub atKept : ℕ → ℕ → ℕ → ℕ
+atKept n t limit = 9 * n + 11 * t + (limit + 1)
 
 abbrev pub atNeighbours : ℕ → ℕ
 atNeighbours t = 3 * t

@@ -236,7 +236,7 @@ toStarted plan words w =
 -- back to the kept vectors, whose field had no end
 unfoldable pub toKept : Plan → Kept → Work → Work
 toKept plan k w =
-    work (normsErased plan (w .stand) (k .norms) (gradientsErased plan (splice (w .floats) (atX (plan .n) (plan .t)) (part (w .floats) (atKept (plan .n) (plan .t)) (3 * plan .n)))))
+    work (normsErased plan (w .stand) (k .norms) (gradientsErased plan (splice (w .floats) (atX (plan .n) (plan .t)) (part (w .floats) (atKept (plan .n) (plan .t) (plan .limit)) (3 * plan .n)))))
     (pathErased (w .stand) (w .path)) (pathless (k .place) (k .rs) (k .norms) 0)
 
 -- back to place 0: the vectors are begun again
@@ -269,7 +269,7 @@ seek plan words mark target w =
 -- ---- a mark
 
 unfoldable pub keptFloats : Plan → List Float → List Float
-keptFloats plan m = splice m (atKept (plan .n) (plan .t)) (part m (atX (plan .n) (plan .t)) (3 * plan .n))
+keptFloats plan m = splice m (atKept (plan .n) (plan .t) (plan .limit)) (part m (atX (plan .n) (plan .t)) (3 * plan .n))
 
 abbrev pub keptOf : Stand → Kept
 keptOf s = record { place = s .place; rs = s .rs; norms = s .norms }

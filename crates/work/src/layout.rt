@@ -10,21 +10,21 @@ pub fn at_gradients(n: usize, t: usize) -> usize
     requires { ⌜ (n ≤ 4096) × (t ≤ 8192) ⌝ }
     ensures { λ r. ⌜ r ≡ Layout.atGradients n t ⌝ }
 {
-    12 * n + 9 * t
+    9 * n + 9 * t
 }
 
 pub fn at_norms(n: usize, t: usize) -> usize
     requires { ⌜ (n ≤ 4096) × (t ≤ 8192) ⌝ }
     ensures { λ r. ⌜ r ≡ Layout.atNorms n t ⌝ }
 {
-    12 * n + 11 * t
+    9 * n + 11 * t
 }
 
-pub fn at_kept(n: usize, t: usize) -> usize
-    requires { ⌜ (n ≤ 4096) × (t ≤ 8192) ⌝ }
-    ensures { λ r. ⌜ r ≡ Layout.atKept n t ⌝ }
+pub fn at_kept(n: usize, t: usize, limit: usize) -> usize
+    requires { ⌜ (n ≤ 4096) × (t ≤ 8192) × (limit ≤ 100000) ⌝ }
+    ensures { λ r. ⌜ r ≡ Layout.atKept n t limit ⌝ }
 {
-    9 * n + 9 * t
+    9 * n + 11 * t + (limit + 1)
 }
 
 pub fn at_x(n: usize, t: usize) -> usize

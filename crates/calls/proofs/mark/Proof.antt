@@ -27,7 +27,7 @@ keep-requires c κs =
     let a = c .before .before .before .before .before .before .before .before .before .before .args in
     let b = buffers (a .floats .now) (a .words .now) (a .path .now) in
     let i = admitted (a .run) b (c .before .before .before .before .held-fault .ensures) (c .before .before .before .if1 .left) in
-    (i .ready .n-most, i .ready .t-most, omega (arith, i .roomy .floats-fit))
+    (i .ready .n-most, i .ready .t-most, i .ready .limit-most, omega (arith, i .roomy .floats-fit))
 
 say-requires-2 : tie.Need-say-requires-2
 say-requires-2 c κs = search needs

@@ -7,8 +7,8 @@ use Rattle.opening.proofs.LawsPlace.{starts, begins-is}
 use Rattle.opening.proofs.begin.Statement.{statement}
 use Rattle.opening.proofs.begin.Tie as tie
 
-at-kept-requires : tie.Need-at-kept-requires
-at-kept-requires c κs = search needs
+at-gradients-requires : tie.Need-at-gradients-requires
+at-gradients-requires c κs = search needs
 
 mul-fill : tie.Need-mul-fill
 mul-fill c = search needs
@@ -57,18 +57,18 @@ same-length c = simp length-set (search needs)
 
 returns : tie.Need-returns
 returns c =
-    begins-is _ _ _ _ _ _ _ _ _ _ _ (c .before .before .before .before .before .before .before .before .before .before .before .before .before .at-kept .ensures) (c .before .before .before .before .before .before .before .before .before .before .fill .ensures) (c .before .before .before .before .before .before .before .matrix-at .ensures)
+    begins-is _ _ _ _ _ _ _ _ _ _ _ (c .before .before .before .before .before .before .before .before .before .before .before .before .before .at-gradients .ensures) (c .before .before .before .before .before .before .before .before .before .before .fill .ensures) (c .before .before .before .before .before .before .before .matrix-at .ensures)
     (c .before .before .before .before .before .before .vectors-at .ensures) (c .before .before .before .before .begin .ensures) (c .before .at-norms .ensures) (c .sqrt .ensures)
 
 pub begin-spec : {M : Type 1} → statement M
 begin-spec =
     tie.close
     (tie.spec
-    at-kept-requires
+    at-gradients-requires
     mul-fill
-    mul-fill-2
     add-fill
     add-fill-2
+    mul-fill-2
     add-fill-3
     fill-requires
     matrix-at-requires
