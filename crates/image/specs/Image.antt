@@ -7,6 +7,7 @@ use lib.Ieee.{Float}
 use Rattle.binary64.specs.Constants.{plusZero}
 use Rattle.plane.specs.declared.Point.{Point}
 use Rattle.stretch.specs.Stretch.{flat}
+use Rattle.pde.specs.Path.{pointFloats, coordinatesOf}
 use Rattle.laplace.specs.Placed.{valuesOf, columnsOf, startsOf, padded}
 use Rattle.model.specs.Task.{Task, vertexCount, triangleCount}
 use Rattle.model.specs.Run.{State, at, matrixOf, rightOf}
@@ -90,7 +91,7 @@ wordsOf c rest =
     ∷ [])
 
 unfoldable pub pathOf : Task → State → List Float → List Float
-pathOf c s rest = padded (2 * c .room) plusZero (s .trail .path) ++ rest
+pathOf c s rest = padded (pointFloats * c .room) plusZero (coordinatesOf (s .trail .path)) ++ rest
 
 -- what was lent beyond the places that a run uses, which no call changes
 pub record Rest : Type 0 where
@@ -109,4 +110,4 @@ abbrev pub wordsUsed : Task → ℕ
 wordsUsed c = 5 * vertexCount c + 18 * triangleCount c + 1
 
 abbrev pub restOf : Task → Buffers → Rest
-restOf c b = record { floats = drop (floatsUsed c) (b .floats); words = drop (wordsUsed c) (b .words); path = drop (2 * c .room) (b .path) }
+restOf c b = record { floats = drop (floatsUsed c) (b .floats); words = drop (wordsUsed c) (b .words); path = drop (pointFloats * c .room) (b .path) }

@@ -9,6 +9,7 @@ use lib.ListN.{length}
 use lib.Ieee.{Float}
 use Rattle.sparse.specs.Stored.{matrix}
 use Rattle.laplace.specs.Placed.{valuesOf}
+use Rattle.pde.specs.Path.{pointFloats, coordinatesOf}
 use Rattle.model.specs.Task.{Task, vertexCount, triangleCount}
 use Rattle.model.specs.Space.{farthest}
 use Rattle.model.specs.Run.{at, matrixOf, rightOf, lastPlace}
@@ -40,7 +41,7 @@ pub record Facts (c : Task) : Type 0 where
   -- the places used, and the rest
   pub floats-long : (p : ℕ) (m : Option ℕ) (floats : List Float) → p ≤ lastPlace c → MarkIn m (lastPlace c) → length (floatsOf c (at c p) m floats) ≡ floatsUsed c + length floats
   pub words-long : (words : List ℕ) → length (wordsOf c words) ≡ wordsUsed c + length words
-  pub path-long : (p : ℕ) (path : List Float) → p ≤ lastPlace c → length (pathOf c (at c p) path) ≡ 2 * c .room + length path
+  pub path-long : (p : ℕ) (path : List Float) → p ≤ lastPlace c → length (pathOf c (at c p) path) ≡ pointFloats * c .room + length path
 
 -- What the statement on the record and the buffers takes besides: the matrix is read back from them, and how long the lists of a place are.
 pub record Parts (c : Task) : Type 0 where
@@ -53,5 +54,5 @@ pub record Parts (c : Task) : Type 0 where
   pub p-long : (p : ℕ) → p ≤ lastPlace c → length (at c p .field .solve .p) ≡ vertexCount c
   pub gradients-long : (p : ℕ) → p ≤ lastPlace c → length (at c p .trail .gradients) ≡ 2 * triangleCount c
   pub norms-long : (p : ℕ) → p ≤ lastPlace c → length (at c p .field .norms) ≤ c .limit + 1
-  pub path-twice : (p : ℕ) → p ≤ lastPlace c → length (at c p .trail .path) ≡ 2 * at c p .trail .walk .points
+  pub path-counted : (p : ℕ) → p ≤ lastPlace c → length (coordinatesOf (at c p .trail .path)) ≡ pointFloats * at c p .trail .walk .points
   pub points-in : (p : ℕ) → p ≤ lastPlace c → at c p .trail .walk .points ≤ c .room

@@ -20,8 +20,8 @@ use Rattle.conjugate.specs.Solver.{Turn, halted, reached, moved}
 use Rattle.pde.specs.declared.Start.{Start}
 use Rattle.pde.specs.declared.Walk.{Walk}
 use Rattle.pde.specs.declared.Crossing.{Crossing}
-use Rattle.pde.specs.PathLaws.{walked-more, walked-most}
-use Rattle.pde.specs.Path.{added}
+use Rattle.pde.specs.PathLaws.{length-coordinates, walked-more, walked-most}
+use Rattle.pde.specs.Path.{pointFloats, coordinatesOf, added}
 use Rattle.model.specs.Space.{factor}
 use Rattle.model.specs.Run.{nextBy}
 use Rattle.work.specs.declared.Given.{Given}
@@ -63,10 +63,10 @@ usedBy plan = atNorms (plan .n) (plan .t) + (plan .limit + 1 + 3 * plan .n)
 
 pub record Keeps (plan : Plan) (w w′ : Work) : Type 0 where
   pub floats : Kept-from (usedBy plan) (w .floats) (w′ .floats)
-  pub path : Kept-from (2 * plan .room) (w .path) (w′ .path)
+  pub path : Kept-from (pointFloats * plan .room) (w .path) (w′ .path)
 
 pub keeps-none : (plan : Plan) (w : Work) → Keeps plan w w
-keeps-none plan w = record { floats = same (usedBy plan) (w .floats); path = same (2 * plan .room) (w .path) }
+keeps-none plan w = record { floats = same (usedBy plan) (w .floats); path = same (pointFloats * plan .room) (w .path) }
 
 pub keeps-both : {plan : Plan} {w w′ w″ : Work} → Keeps plan w w′ → Keeps plan w′ w″ → Keeps plan w w″
 keeps-both a b = record { floats = both (a .floats) (b .floats); path = both (a .path) (b .path) }
@@ -85,8 +85,8 @@ norms-most plan s h = go (eqb (s .end) 0) (h .norms)
 
 -- ---- what a crossing adds fits
 
-crossing-fits : (room : ℕ) (last : Bool) (w : Walk) (x : Crossing) → w .points ≤ room → 2 * w .points + length (added room w x) ≤ 2 * room
-crossing-fits room last w x h = omega (arith, walked-more room last w x, walked-most room last w x h)
+crossing-fits : (room : ℕ) (last : Bool) (w : Walk) (x : Crossing) → w .points ≤ room → pointFloats * w .points + length (coordinatesOf (added room w x)) ≤ pointFloats * room
+crossing-fits room last w x h = omega (arith, length-coordinates (added room w x), walked-more room last w x, walked-most room last w x h)
 
 -- ---- a pass
 
@@ -147,11 +147,11 @@ module _ (plan : Plan) (words : List ℕ) (room : 1 ≤ plan .room) where
   floats-given s (Gives.First p) l m h a = a
   floats-given s (Gives.Crossed x) l m h a = a
 
-  path-given : (s : Stand) (g : Gives) (p : List Float) → GivesIn plan s g → Kept-from (2 * plan .room) p (pathGiven plan s g p)
-  path-given s Gives.Nothing p h = same (2 * plan .room) p
-  path-given s (Gives.Norm v) p h = same (2 * plan .room) p
-  path-given s (Gives.First q) p h = kept-splice (2 * plan .room) p 0 (q .x ∷ q .y ∷ []) (omega arith)
-  path-given s (Gives.Crossed x) p h = kept-splice (2 * plan .room) p (2 * s .walk .points) (added (plan .room) (s .walk) x) (crossing-fits (plan .room) true (s .walk) x h)
+  path-given : (s : Stand) (g : Gives) (p : List Float) → GivesIn plan s g → Kept-from (pointFloats * plan .room) p (pathGiven plan s g p)
+  path-given s Gives.Nothing p h = same (pointFloats * plan .room) p
+  path-given s (Gives.Norm v) p h = same (pointFloats * plan .room) p
+  path-given s (Gives.First q) p h = kept-splice (pointFloats * plan .room) p 0 (coordinatesOf (q ∷ [])) (omega (arith, length-coordinates (q ∷ [])))
+  path-given s (Gives.Crossed x) p h = kept-splice (pointFloats * plan .room) p (pointFloats * s .walk .points) (coordinatesOf (added (plan .room) (s .walk) x)) (crossing-fits (plan .room) true (s .walk) x h)
 
   -- a changed front, and what lies beyond it
   module _ (w : Work) (fits : atNorms (plan .n) (plan .t) ≤ length (w .floats)) where

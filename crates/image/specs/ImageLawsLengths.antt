@@ -14,6 +14,8 @@ use Rattle.mesh.specs.Element as element
 use Rattle.laplace.specs.Matrix.{few-entries}
 use Rattle.laplace.specs.Placed.{valuesOf, columnsOf, startsOf, padded}
 use Rattle.conjugate.specs.Solver.{Solve}
+use Rattle.pde.specs.Path.{pointFloats, coordinatesOf}
+use Rattle.pde.specs.PathLaws.{length-coordinates}
 use Rattle.model.specs.Task.{Task, vertexCount, triangleCount}
 use Rattle.model.specs.Run.{State, at, matrixOf, rightOf}
 use Rattle.model.specs.Sized.{Sized, Vectors}
@@ -29,7 +31,7 @@ pub record Shaped (c : Task) (s : State) : Type 0 where
   pub vectors : Vectors (vertexCount c) (s .field .solve)
   pub gradients : length (s .trail .gradients) ≡ 2 * triangleCount c
   pub norms : length (s .field .norms) ≤ c .limit + 1
-  pub path : length (s .trail .path) ≡ 2 * s .trail .walk .points
+  pub path : length (s .trail .path) ≡ s .trail .walk .points
   pub room : s .trail .walk .points ≤ c .room
 
 pub shaped-at : (c : Task) → Sized c → (p : ℕ) → Shaped c (at c p)
@@ -103,11 +105,15 @@ module _ (c : Task) (z : Sized c) (s : State) (h : Shaped c s) where
       let l : Lies c (s .field .solve .x) (s .field .solve .r) (s .field .solve .p) (s .trail .gradients) = laid in
       length-flat (floatSegments c s m rest) ∙ omega (arith, length-norms, length-append (keptVectors c m) rest, length-kept c m)
 
+  -- the points, as floats, fit the room
+  pub length-points : length (coordinatesOf (s .trail .path)) ≡ pointFloats * s .trail .walk .points
+  length-points = length-coordinates (s .trail .path) ∙ ap (λ (k : ℕ). pointFloats * k) (h .path)
+
   pub length-path : (rest : List Float) → length (pathOf c s rest) ≡ 2 * c .room + length rest
   unfolding pathOf
   length-path rest =
-      length-append (padded (2 * c .room) plusZero (s .trail .path)) rest
-      ∙ ap (λ (k : ℕ). k + length rest) (length-padded (2 * c .room) plusZero (s .trail .path) (omega (arith, h .path, h .room)))
+      length-append (padded (pointFloats * c .room) plusZero (coordinatesOf (s .trail .path))) rest
+      ∙ ap (λ (k : ℕ). k + length rest) (length-padded (pointFloats * c .room) plusZero (coordinatesOf (s .trail .path)) (omega (arith, length-points, h .room)))
 
 -- ---- the words
 
@@ -149,4 +155,4 @@ words-split c rest = split (wordSegments c) rest
 
 pub path-split : (c : Task) (s : State) (rest : List Float) → pathOf c s rest ≡ pathOf c s [] ++ rest
 unfolding pathOf
-path-split c s rest = ap (λ (l : List Float). l ++ rest) (sym (append-nil (padded (2 * c .room) plusZero (s .trail .path))))
+path-split c s rest = ap (λ (l : List Float). l ++ rest) (sym (append-nil (padded (pointFloats * c .room) plusZero (coordinatesOf (s .trail .path)))))

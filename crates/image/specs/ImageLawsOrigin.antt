@@ -13,6 +13,7 @@ use Rattle.stretch.specs.Stretch.{part, splice, flat}
 use Rattle.stretch.specs.StretchLaws.{splice-front}
 use Rattle.laplace.specs.Placed.{padded}
 use Rattle.conjugate.specs.Solver.{Solve, begun}
+use Rattle.pde.specs.Path.{pointFloats, coordinatesOf}
 use Rattle.model.specs.Task.{Task, vertexCount, triangleCount}
 use Rattle.model.specs.Run.{State, Field, state, matrixOf, rightOf, noTrail, place0, at}
 use Rattle.model.specs.Sized.{Sized, Vectors}
@@ -23,7 +24,7 @@ use Rattle.work.specs.Memory.{pathErased, gradientsErased, normsErased, begunAg
 use Rattle.image.specs.Image.{planOf, standOf, keptAt, keptVectors, frontSegments, floatsOf, wordsOf, pathOf}
 use Rattle.image.specs.ImageLawsPadded.{length-padded, padded-more, padded-cut, padded-erased}
 use Rattle.image.specs.ImageLawsSegments.{zeros, laid-x, laid-r, laid-p, laid-gradients, part-right, part-values, part-kept, put-x, put-r, put-p, put-product, put-vectors, put-gradients, put-norms}
-use Rattle.image.specs.ImageLawsLengths.{Shaped, Lies, shaped-at, laid, length-kept, length-norms}
+use Rattle.image.specs.ImageLawsLengths.{Shaped, Lies, shaped-at, laid, length-kept, length-norms, length-points}
 use Rattle.image.specs.ImageLawsRead.{matrix-read}
 use Rattle.image.specs.ImageLawsPass.{imageOf, work-is}
 
@@ -49,13 +50,15 @@ module _ (c : Task) (z : Sized c) (s : State) (h : Shaped c s) (p : ℕ) (m : Op
 
   -- the path is +0 again
   path-erased : (q : ℕ) (f : Field) → pathErased (standOf q s) (pathOf c s path) ≡ pathOf c (state f (noTrail t)) path
-  unfolding pathOf
+  unfolding pathOf coordinatesOf
   path-erased q f =
-      let long : length (s .trail .path) ≡ 2 * s .trail .walk .points = h .path in
-      let l : length (padded (2 * c .room) plusZero (s .trail .path)) ≡ 2 * c .room = length-padded (2 * c .room) plusZero (s .trail .path) (omega (arith, h .room)) in
-      let e : length (zeros (2 * s .trail .walk .points)) ≡ 2 * s .trail .walk .points = length-replicate (2 * s .trail .walk .points) plusZero in
-      splice-front (padded (2 * c .room) plusZero (s .trail .path)) path 0 (zeros (2 * s .trail .walk .points)) (omega (arith, h .room))
-      ∙ ap (λ (y : List Float). y ++ path) (padded-erased (2 * c .room) plusZero (s .trail .path) (2 * s .trail .walk .points) long (omega (arith, h .room)))
+      let k = pointFloats * s .trail .walk .points in
+      let ps = coordinatesOf (s .trail .path) in
+      let long : length ps ≡ k = length-points c z s h in
+      let l : length (padded (pointFloats * c .room) plusZero ps) ≡ pointFloats * c .room = length-padded (pointFloats * c .room) plusZero ps (omega (arith, h .room)) in
+      let e : length (zeros k) ≡ k = length-replicate k plusZero in
+      splice-front (padded (pointFloats * c .room) plusZero ps) path 0 (zeros k) (omega (arith, h .room))
+      ∙ ap (λ (y : List Float). y ++ path) (padded-erased (pointFloats * c .room) plusZero ps k long (omega (arith, h .room)))
 
   -- ---- to where the field ended
 

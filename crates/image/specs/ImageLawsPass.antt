@@ -24,7 +24,8 @@ use Rattle.pde.specs.declared.Start.{Start}
 use Rattle.pde.specs.declared.Crossing.{Crossing}
 use Rattle.pde.specs.Start.{triangleContaining, pickStart}
 use Rattle.pde.specs.Crossing.{crossing}
-use Rattle.pde.specs.Path.{walked, added}
+use Rattle.pde.specs.Path.{pointFloats, coordinatesOf, walked, added}
+use Rattle.pde.specs.PathLaws.{length-coordinates, coordinates-append}
 use Rattle.model.specs.Task.{Task, vertexCount, triangleCount}
 use Rattle.model.specs.Space.{factor}
 use Rattle.model.specs.Run.{State, state, rule, matrixOf, solved, solving, set-out, startFrom, starting, crossed, crossingPass, nextBy, passBy, pass, at, finished}
@@ -153,17 +154,23 @@ module _ (c : Task) (z : Sized c) (s : State) (h : Shaped c s) (p : ℕ) (m : Op
   -- ---- the path
 
   -- points behind the points
-  path-more : (new : List Float) (at : ℕ) → length (s .trail .path) ≡ at → length (s .trail .path ++ new) ≤ 2 * c .room
-      → splice (padded (2 * c .room) plusZero (s .trail .path) ++ path) at new ≡ padded (2 * c .room) plusZero (s .trail .path ++ new) ++ path
+  abbrev filled : List Point → List Float
+  filled ps = padded (pointFloats * c .room) plusZero (coordinatesOf ps)
+
+  path-more : (new : List Point) (at : ℕ) → pointFloats * length (s .trail .path) ≡ at → length (s .trail .path ++ new) ≤ c .room
+      → splice (filled (s .trail .path) ++ path) at (coordinatesOf new) ≡ filled (s .trail .path ++ new) ++ path
   path-more new at e k =
       let a : length (s .trail .path ++ new) ≡ length (s .trail .path) + length new = length-append (s .trail .path) new in
-      let l : length (padded (2 * c .room) plusZero (s .trail .path)) ≡ 2 * c .room = length-padded (2 * c .room) plusZero (s .trail .path) (omega arith) in
-      splice-front (padded (2 * c .room) plusZero (s .trail .path)) path at new (omega arith)
-      ∙ ap (λ (y : List Float). y ++ path) (padded-more (2 * c .room) plusZero (s .trail .path) new at e (omega arith))
+      let f : length (coordinatesOf (s .trail .path)) ≡ pointFloats * length (s .trail .path) = length-coordinates (s .trail .path) in
+      let g : length (coordinatesOf new) ≡ pointFloats * length new = length-coordinates new in
+      let l : length (filled (s .trail .path)) ≡ pointFloats * c .room = length-padded (pointFloats * c .room) plusZero (coordinatesOf (s .trail .path)) (omega arith) in
+      splice-front (filled (s .trail .path)) path at (coordinatesOf new) (omega arith)
+      ∙ ap (λ (y : List Float). y ++ path) (padded-more (pointFloats * c .room) plusZero (coordinatesOf (s .trail .path)) (coordinatesOf new) at (f ∙ e) (omega arith))
+      ∙ ap (λ (y : List Float). padded (pointFloats * c .room) plusZero y ++ path) (sym (coordinates-append (s .trail .path) new))
 
   -- ---- the start pass
 
-  nothing : (l : List Float) → length l ≡ 0 → l ≡ []
+  nothing : (l : List Point) → length l ≡ 0 → l ≡ []
   nothing [] e = refl
   nothing (y ∷ ys) e = absurd (omega arith)
 
@@ -180,12 +187,11 @@ module _ (c : Task) (z : Sized c) (s : State) (h : Shaped c s) (p : ℕ) (m : Op
       → written plan here (setOut (standOf p s) G otherwise st) ≡ imageOf c (state (s .field) (set-out st otherwise gs)) (suc p) m floats path
   unfolding setOut floatsOf pathOf
   set-image otherwise (Start.At q i e) k h′ =
-      let fits : 2 ≤ 2 * c .room = omega (arith, z .room) in
-      let more : splice (padded (2 * c .room) plusZero (s .trail .path) ++ path) 0 (q .x ∷ q .y ∷ []) ≡ padded (2 * c .room) plusZero (s .trail .path ++ (q .x ∷ q .y ∷ [])) ++ path =
-      path-more (q .x ∷ q .y ∷ []) 0 (ap length k) (rw k fits) in
-      work-is (plain (laid-gradients lies gs-long) G refl) (more ∙ ap (λ (y : List Float). padded (2 * c .room) plusZero (y ++ (q .x ∷ q .y ∷ [])) ++ path) k) (rw (add-one p))
+      let fits : 1 ≤ c .room = z .room in
+      let more : splice (filled (s .trail .path) ++ path) 0 (coordinatesOf (q ∷ [])) ≡ filled (s .trail .path ++ (q ∷ [])) ++ path = path-more (q ∷ []) 0 (ap (λ (l : List Point). pointFloats * length l) k) (rw k fits) in
+      work-is (plain (laid-gradients lies gs-long) G refl) (more ∙ ap (λ (y : List Point). filled (y ++ (q ∷ [])) ++ path) k) (rw (add-one p))
   set-image otherwise Start.Nothing k h′ =
-      work-is (plain (laid-gradients lies gs-long) G refl) (ap (λ (y : List Float). padded (2 * c .room) plusZero y ++ path) k) (rw (add-one p))
+      work-is (plain (laid-gradients lies gs-long) G refl) (ap (λ (y : List Point). filled y ++ path) k) (rw (add-one p))
 
   start-image : (g : Option Point) → s .trail .path ≡ [] → Shaped c (state (s .field) (startFrom g c (s .field .solve .x) gs))
       → written plan here (startBy plan W F (standOf p s) (givenOf g)) ≡ imageOf c (state (s .field) (startFrom g c (s .field .solve .x) gs)) (suc p) m floats path
@@ -213,8 +219,8 @@ module _ (c : Task) (z : Sized c) (s : State) (h : Shaped c s) (p : ℕ) (m : Op
   unfolding crossed floatsOf pathOf
   crossed-image x h′ =
       let new = added (c .room) (s .trail .walk) x in
-      let long : length (s .trail .path ++ new) ≤ 2 * c .room = omega (arith, h′ .path, h′ .room) in
-      work-is (plain lies F refl) (path-more new (2 * s .trail .walk .points) (h .path) long) (rw (add-one p))
+      let long : length (s .trail .path ++ new) ≤ c .room = omega (arith, h′ .path, h′ .room) in
+      work-is (plain lies F refl) (path-more new (pointFloats * s .trail .walk .points) (ap (λ (k : ℕ). pointFloats * k) (h .path)) long) (rw (add-one p))
 
   cross-image : Shaped c (state (s .field) (crossingPass c (s .field .solve .x) (s .trail)))
       → written plan here (crossStep plan W F (standOf p s)) ≡ imageOf c (state (s .field) (crossingPass c (s .field .solve .x) (s .trail))) (suc p) m floats path

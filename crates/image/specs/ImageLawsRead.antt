@@ -12,6 +12,7 @@ use Rattle.stretch.specs.Stretch.{part, flat, off}
 use Rattle.stretch.specs.StretchLaws.{part-part, part-front}
 use Rattle.stretch.specs.SegmentLaws.{part-seg}
 use Rattle.sparse.specs.Stored.{rowsOf, matrix}
+use Rattle.pde.specs.Path.{pointFloats, coordinatesOf}
 use Rattle.laplace.specs.Placed.{valuesOf, columnsOf, startsOf, padded}
 use Rattle.model.specs.Task.{Task, vertexCount, triangleCount}
 use Rattle.model.specs.Run.{State, matrixOf, rightOf}
@@ -23,7 +24,7 @@ use Rattle.image.specs.Image.{planOf, keptVectors, frontSegments, floats
 use Rattle.image.specs.ImageLawsMatrix.{length-values, length-columns, read-back}
 use Rattle.image.specs.ImageLawsPadded.{length-padded, part-padded}
 use Rattle.image.specs.ImageLawsSegments.{part-vertices, part-right, part-values, part-x, part-r, part-p, part-kept, part-gradients, part-norms, front-segs}
-use Rattle.image.specs.ImageLawsLengths.{Shaped, few, laid, length-norms, length-kept, length-kept-columns, length-row-starts, wordSegments}
+use Rattle.image.specs.ImageLawsLengths.{Shaped, few, laid, length-norms, length-points, length-kept, length-kept-columns, length-row-starts, wordSegments}
 
 -- the front of a padded stretch
 part-stretch : {A : Type 0} (l : List A) (at k : ℕ) (d : A) (xs : List A) (n : ℕ) → part l at k ≡ padded k d xs → length xs ≡ n → n ≤ k → part l at n ≡ xs
@@ -125,9 +126,11 @@ module _ (c : Task) (z : Sized c) (s : State) (h : Shaped c s) (m : Option ℕ) 
 
   -- ---- the path
 
-  pub path-points : part (pathOf c s rest) 0 (2 * s .trail .walk .points) ≡ s .trail .path
+  pub path-points : part (pathOf c s rest) 0 (pointFloats * s .trail .walk .points) ≡ coordinatesOf (s .trail .path)
   unfolding pathOf
   path-points =
-      let l : length (padded (2 * c .room) plusZero (s .trail .path)) ≡ 2 * c .room = length-padded (2 * c .room) plusZero (s .trail .path) (omega (arith, h .path, h .room)) in
-      part-front (padded (2 * c .room) plusZero (s .trail .path)) rest 0 (2 * s .trail .walk .points) (omega (arith, h .room))
-      ∙ part-padded (2 * c .room) plusZero (s .trail .path) (2 * s .trail .walk .points) (h .path)
+      let k : length (coordinatesOf (s .trail .path)) ≡ pointFloats * s .trail .walk .points = length-points c z s h in
+      let l : length (padded (pointFloats * c .room) plusZero (coordinatesOf (s .trail .path))) ≡ pointFloats * c .room =
+      length-padded (pointFloats * c .room) plusZero (coordinatesOf (s .trail .path)) (omega (arith, h .room)) in
+      part-front (padded (pointFloats * c .room) plusZero (coordinatesOf (s .trail .path))) rest 0 (pointFloats * s .trail .walk .points) (omega (arith, h .room))
+      ∙ part-padded (pointFloats * c .room) plusZero (coordinatesOf (s .trail .path)) (pointFloats * s .trail .walk .points) k

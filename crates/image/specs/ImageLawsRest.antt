@@ -14,6 +14,7 @@ use Rattle.binary64.specs.Number.{pick}
 use Rattle.binary64.specs.Root.{root}
 use Rattle.stretch.specs.Stretch.{part, splice}
 use Rattle.stretch.specs.StretchLaws.{length-part}
+use Rattle.pde.specs.Path.{pointFloats}
 use Rattle.sparse.specs.Stored.{matrix}
 use Rattle.sparse.specs.ProductLaws.{length-rowsOf}
 use Rattle.model.specs.Sized.{Vectors}
@@ -64,8 +65,8 @@ module _ (plan : Plan) (words : List ℕ) (room : 1 ≤ plan .room) where
   -- ---- back to an earlier place
 
   module _ (w : Work) (fits : usedBy plan ≤ length (w .floats)) (h : InRange plan (w .stand)) where
-    path-kept : Kept-from (2 * plan .room) (w .path) (pathErased (w .stand) (w .path))
-    path-kept = kept-splice (2 * plan .room) (w .path) 0 (zeros (2 * w .stand .walk .points)) (omega (arith, h .points, length-replicate (2 * w .stand .walk .points) plusZero))
+    path-kept : Kept-from (pointFloats * plan .room) (w .path) (pathErased (w .stand) (w .path))
+    path-kept = kept-splice (pointFloats * plan .room) (w .path) 0 (zeros (pointFloats * w .stand .walk .points)) (omega (arith, h .points, length-replicate (pointFloats * w .stand .walk .points) plusZero))
 
     solved-moves : Moves plan w (toSolved plan w)
     unfolding toSolved
@@ -81,7 +82,7 @@ module _ (plan : Plan) (words : List ℕ) (room : 1 ≤ plan .room) where
         let o = once plan words (toSolved plan w) in
         let a : Moves plan w o = moves-both solved-moves (once-moves (toSolved plan w) (omega (arith, solved-moves .keeps .floats .long)) (solved-moves .within)) in
         record {
-          keeps = record { floats = same (usedBy plan) (w .floats); path = subst (Kept-from (2 * plan .room) (w .path)) (sym (started-path plan words w n)) (a .keeps .path) };
+          keeps = record { floats = same (usedBy plan) (w .floats); path = subst (Kept-from (pointFloats * plan .room) (w .path)) (sym (started-path plan words w n)) (a .keeps .path) };
           within = subst (InRange plan) (sym (started-stand plan words w n)) (a .within);
         }
 
@@ -186,21 +187,21 @@ module _ (r : Run) (b : Buffers) where
   unfolding gone
   gone-keeps (advance k) h = seek-moves (r .plan) (b .words) (h .ready .room-least) (workOf r b) (omega (arith, h .roomy .floats-fit)) (ranged r b h) (r .mark) _ .keeps
   gone-keeps (back k) h = seek-moves (r .plan) (b .words) (h .ready .room-least) (workOf r b) (omega (arith, h .roomy .floats-fit)) (ranged r b h) (r .mark) _ .keeps
-  gone-keeps mark h = record { floats = mark-keeps (r .plan) (b .words) (h .ready .room-least) (b .floats); path = same (2 * r .plan .room) (b .path) }
+  gone-keeps mark h = record { floats = mark-keeps (r .plan) (b .words) (h .ready .room-least) (b .floats); path = same (pointFloats * r .plan .room) (b .path) }
   gone-keeps return h = seek-moves (r .plan) (b .words) (h .ready .room-least) (workOf r b) (omega (arith, h .roomy .floats-fit)) (ranged r b h) (r .mark) _ .keeps
 
   -- what any call keeps
   pub record KeptBy (b′ : Buffers) : Type 0 where
     pub floats : Kept-from (usedBy (r .plan)) (b .floats) (b′ .floats)
     pub words : b′ .words ≡ b .words
-    pub path : Kept-from (2 * r .plan .room) (b .path) (b′ .path)
+    pub path : Kept-from (pointFloats * r .plan .room) (b .path) (b′ .path)
 
   by-fault : (c : Call) (t : Bool) → eqb (fault c r b) 0 ≡ t → KeptBy (pick t (buffers (gone c r b .floats) (b .words) (gone c r b .path)) b)
   unfolding fault
   by-fault c true e =
       let k : Keeps (r .plan) (workOf r b) (gone c r b) = gone-keeps c (accepted r b (then-none (heldFault r b) (lateFault c r b) (eqb-true (fault c r b) 0 e) .0)) in
       record { floats = k .floats; words = refl; path = k .path }
-  by-fault c false e = record { floats = same (usedBy (r .plan)) (b .floats); words = refl; path = same (2 * r .plan .room) (b .path) }
+  by-fault c false e = record { floats = same (usedBy (r .plan)) (b .floats); words = refl; path = same (pointFloats * r .plan .room) (b .path) }
 
   pub keeps-call : (c : Call) → KeptBy (buffersAfter c r b)
   unfolding buffersAfter

@@ -6,10 +6,10 @@ use Rattle.model.specs.Task.{Task}
 use Rattle.model.specs.Run.{at, matrixOf, lastPlace}
 use Rattle.model.specs.Sized.{Sized}
 use Rattle.model.specs.SizeLaws.{right-length}
-use Rattle.model.specs.RunLaws.{last-bound, vectors-sized, gradients-sized, norms-bound, path-sized, points-bound}
+use Rattle.model.specs.RunLaws.{last-bound, vectors-sized, gradients-sized, norms-bound, points-bound}
 use Rattle.image.specs.ImageFacts.{MarkIn, Facts, Parts}
 use Rattle.image.specs.ImageLawsGoes as Goes
-use Rattle.image.specs.ImageLawsLengths.{shaped-at, few, length-floats, length-words, length-path}
+use Rattle.image.specs.ImageLawsLengths.{shaped-at, few, length-floats, length-words, length-points, length-path}
 use Rattle.image.specs.ImageLawsMatrix.{length-values}
 use Rattle.image.specs.ImageLawsRead.{matrix-image}
 use Rattle.image.specs.ImageLawsSeek as Seek
@@ -43,6 +43,6 @@ module _ (c : Task) (z : Sized c) where
     p-long = λ p h. vectors-sized c p .p;
     gradients-long = λ p h. gradients-sized c p;
     norms-long = λ p h. norms-bound c p;
-    path-twice = λ p h. path-sized c p;
+    path-counted = λ p h. length-points c z (at c p) (shaped-at c z p);
     points-in = λ p h. points-bound c (z .room) p;
   }

@@ -12,6 +12,7 @@ use lib.Dec.{ltb, eqb}
 use lib.Ieee.{Float}
 use Rattle.binary64.specs.Number.{pick}
 use Rattle.stretch.specs.Stretch.{flat}
+use Rattle.pde.specs.Path.{pointFloats}
 use Rattle.model.specs.Task.{Task, triangleCount}
 use Rattle.model.specs.Space.{farthest}
 use Rattle.model.specs.Sized.{Sized}
@@ -71,11 +72,11 @@ counted c good = record { vertices = good .vertices-most; triangles = good .tria
 
 -- how many places they have
 abbrev pub sizes : Task → Rest → Space
-sizes c rest = record { floats = floatsUsed c + length (rest .floats); words = wordsUsed c + length (rest .words); path = 2 * c .room + length (rest .path) }
+sizes c rest = record { floats = floatsUsed c + length (rest .floats); words = wordsUsed c + length (rest .words); path = pointFloats * c .room + length (rest .path) }
 
 -- the rest of a front that is lent
 abbrev pub lentRest : Task → Space → Rest → Rest
-lentRest c lent rest = record { floats = take (lent .floats - floatsUsed c) (rest .floats); words = take (lent .words - wordsUsed c) (rest .words); path = take (lent .path - 2 * c .room) (rest .path) }
+lentRest c lent rest = record { floats = take (lent .floats - floatsUsed c) (rest .floats); words = take (lent .words - wordsUsed c) (rest .words); path = take (lent .path - pointFloats * c .room) (rest .path) }
 
 floats-split : (c : Task) (s : State) (m : Option ℕ) (rest : List Float) → floatsOf c s m rest ≡ floatsOf c s m [] ++ rest
 unfolding floatsOf flat
@@ -107,7 +108,7 @@ module _ (c : Task) (facts : Facts c) where
   words-lead : Leads (λ r. wordsOf c r) (wordsUsed c)
   words-lead = record { head = wordsOf c []; split = λ r. words-split c r; long = facts .words-long [] ∙ omega arith }
 
-  path-lead : (s : Counter) → Within (lastPlace c) s → Leads (λ r. pathOf c (at c (s .place)) r) (2 * c .room)
+  path-lead : (s : Counter) → Within (lastPlace c) s → Leads (λ r. pathOf c (at c (s .place)) r) (pointFloats * c .room)
   path-lead s w = record { head = pathOf c (at c (s .place)) []; split = λ r. path-split c (at c (s .place)) r; long = facts .path-long (s .place) [] (w .place-in) ∙ omega arith }
 
   pub lengths-image : (s : Counter) (rest : Rest) → Within (lastPlace c) s → lengthsOf (image c s rest) ≡ sizes c rest
@@ -122,7 +123,7 @@ module _ (c : Task) (facts : Facts c) where
       let f : _ = h .floats in
       let g : _ = h .words in
       let k : _ = h .path in
-      rw (take-front _ (floatsUsed c) (floats-lead s w) (rest .floats) (lent .floats) (omega arith), take-front _ (wordsUsed c) words-lead (rest .words) (lent .words) (omega arith), take-front _ (2 * c .room) (path-lead s w) (rest .path) (lent .path) (omega arith))
+      rw (take-front _ (floatsUsed c) (floats-lead s w) (rest .floats) (lent .floats) (omega arith), take-front _ (wordsUsed c) words-lead (rest .words) (lent .words) (omega arith), take-front _ (pointFloats * c .room) (path-lead s w) (rest .path) (lent .path) (omega arith))
 
   -- and one image in place of another's front is that image whole
   behind-image : (s s′ : Counter) (rest : Rest) (lent : Space) → Within (lastPlace c) s → Within (lastPlace c) s′ → Enough (needs c) lent
@@ -132,7 +133,7 @@ module _ (c : Task) (facts : Facts c) where
       let f : _ = h .floats in
       let g : _ = h .words in
       let k : _ = h .path in
-      rw (rejoined _ _ (floatsUsed c) (floats-lead s w) (floats-lead s′ w′) (rest .floats) (lent .floats) (omega arith), rejoined _ _ (wordsUsed c) words-lead words-lead (rest .words) (lent .words) (omega arith), rejoined _ _ (2 * c .room) (path-lead s w) (path-lead s′ w′) (rest .path) (lent .path) (omega arith))
+      rw (rejoined _ _ (floatsUsed c) (floats-lead s w) (floats-lead s′ w′) (rest .floats) (lent .floats) (omega arith), rejoined _ _ (wordsUsed c) words-lead words-lead (rest .words) (lent .words) (omega arith), rejoined _ _ (pointFloats * c .room) (path-lead s w) (path-lead s′ w′) (rest .path) (lent .path) (omega arith))
 
   -- ---- where a call leads from an image
 

@@ -5,7 +5,8 @@ use lib.Dec.{leb}
 use lib.ListN.{length, take}
 use lib.Ieee.{Float}
 use Rattle.binary64.specs.Number.{pick}
+use Rattle.pde.specs.Path.{pointFloats}
 use Rattle.work.specs.declared.Run.{Run}
 
 unfoldable pub pointsOf : Run → List Float → List Float
-pointsOf r path = pick (leb (2 * r .stand .walk .points) (length path)) (take (2 * r .stand .walk .points) path) []
+pointsOf r path = pick (leb (pointFloats * r .stand .walk .points) (length path)) (take (pointFloats * r .stand .walk .points) path) []

@@ -9,6 +9,7 @@ use lib.Dec.{eqb}
 use lib.ListN.{length, drop, length-drop}
 use borrow.Author.Tests.{eqb-true}
 use Rattle.binary64.specs.Number.{pick}
+use Rattle.pde.specs.Path.{pointFloats}
 use Rattle.format.specs.Content.{Content}
 use Rattle.format.specs.Sheet.{Parsed, accepted, refused, parse}
 use Rattle.model.specs.Task.{Task, task}
@@ -42,7 +43,7 @@ sizes-rest c b h =
     let p : _ = h .path in
     let x : floatsUsed c + length (drop (floatsUsed c) (b .floats)) ≡ length (b .floats) = rw length-drop (omega arith) in
     let y : wordsUsed c + length (drop (wordsUsed c) (b .words)) ≡ length (b .words) = rw length-drop (omega arith) in
-    let z : 2 * c .room + length (drop (2 * c .room) (b .path)) ≡ length (b .path) = rw length-drop (omega arith) in
+    let z : pointFloats * c .room + length (drop (pointFloats * c .room) (b .path)) ≡ length (b .path) = rw length-drop (omega arith) in
     rw (x, y, z)
 
 module _ (c : Task) (good : Sized c) (facts : Facts c) (b : Buffers) (space : short (needs c) (lengthsOf b) ≡ 0) where

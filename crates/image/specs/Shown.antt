@@ -13,6 +13,7 @@ use Rattle.stretch.specs.Stretch.{part}
 use Rattle.sparse.specs.Sparse.{Entry, entry}
 use Rattle.sparse.specs.Stored.{matrix}
 use Rattle.mesh.specs.Mesh.{free}
+use Rattle.pde.specs.Path.{pointFloats, coordinatesOf}
 use Rattle.laplace.specs.Matrix.{valueAt, Rising, Below}
 use Rattle.model.specs.Task.{Task, vertexCount, triangleCount}
 use Rattle.model.specs.Space.{factor}
@@ -55,10 +56,10 @@ abbrev pub beyondNormsIn : Task → Run → Buffers → List Float
 beyondNormsIn c run b = part (b .floats) (atNorms (vertexCount c) (triangleCount c) + run .stand .norms) (c .limit + 1 - run .stand .norms)
 
 abbrev pub pointsIn : Run → Buffers → List Float
-pointsIn run b = part (b .path) 0 (2 * run .stand .walk .points)
+pointsIn run b = part (b .path) 0 (pointFloats * run .stand .walk .points)
 
 abbrev pub beyondPointsIn : Task → Run → Buffers → List Float
-beyondPointsIn c run b = part (b .path) (2 * run .stand .walk .points) (2 * c .room - 2 * run .stand .walk .points)
+beyondPointsIn c run b = part (b .path) (pointFloats * run .stand .walk .points) (pointFloats * c .room - pointFloats * run .stand .walk .points)
 
 -- the matrix in the work, and its row i
 abbrev pub matrixIn : Task → Buffers → List (List Entry)
@@ -97,8 +98,8 @@ pub record Shown (c : Task) (s : Counter) (run : Run) (b : Buffers) : Type 0 whe
   pub beyondNorms : beyondNormsIn c run b ≡ replicate (c .limit + 1 - run .stand .norms) plusZero
   -- the points and how many, and +0 beyond them
   pub pointCount : run .stand .walk .points ≡ stateAt c s .trail .walk .points
-  pub points : pointsIn run b ≡ stateAt c s .trail .path
-  pub beyondPoints : beyondPointsIn c run b ≡ replicate (2 * c .room - 2 * run .stand .walk .points) plusZero
+  pub points : pointsIn run b ≡ coordinatesOf (stateAt c s .trail .path)
+  pub beyondPoints : beyondPointsIn c run b ≡ replicate (pointFloats * c .room - pointFloats * run .stand .walk .points) plusZero
   -- the matrix in the work is 01's, equals its transpose, and has a lone 1 in each held row and column
   pub matrix : matrixIn c b ≡ matrixOf c
   pub symmetric : Symmetric (vertexCount c) (c .tags) (matrixIn c b)
@@ -113,4 +114,4 @@ pub record HandedOut (c : Task) (s : Counter) (run : Run) (b : Buffers) : Type 0
   pub field : fieldOf run (b .floats) ≡ stateAt c s .field .solve .x
   pub norms : normsOf run (b .floats) ≡ stateAt c s .field .norms
   pub gradients : gradientsOf run (b .floats) ≡ stateAt c s .trail .gradients
-  pub points : pointsOf run (b .path) ≡ stateAt c s .trail .path
+  pub points : pointsOf run (b .path) ≡ coordinatesOf (stateAt c s .trail .path)

@@ -18,6 +18,7 @@ use Rattle.mesh.specs.Element.{flat}
 use Rattle.laplace.specs.Assembly.{Push, pushes, row, rows}
 use Rattle.laplace.specs.Matrix.{AllBelow, row-rising, row-below, pushes-below, symmetric, held-row, held-column}
 use Rattle.laplace.specs.Placed.{valuesOf, padded}
+use Rattle.pde.specs.Path.{pointFloats, coordinatesOf}
 use Rattle.model.specs.Task.{Task, vertexCount, triangleCount}
 use Rattle.model.specs.SizeLaws.{length-rows}
 use Rattle.model.specs.Sized.{Sized}
@@ -112,27 +113,27 @@ module _ (c : Task) (good : Sized c) (parts : Parts c) where
 
   module _ (p : ℕ) (rest : List Float) (h : p ≤ lastPlace c) where
     abbrev path : List Float
-    path = at c p .trail .path
+    path = coordinatesOf (at c p .trail .path)
 
     abbrev filled : ℕ
-    filled = 2 * at c p .trail .walk .points
+    filled = pointFloats * at c p .trail .walk .points
 
     points-part : part (pathOf c (at c p) rest) 0 filled ≡ path
     unfolding pathOf
     points-part =
-        let t : length path ≡ filled = parts .path-twice p h in
+        let t : length path ≡ filled = parts .path-counted p h in
         let u : _ = parts .points-in p h in
-        let l : length (padded (2 * c .room) plusZero path) ≡ 2 * c .room = length-padded (2 * c .room) plusZero path (omega arith) in
-        rw (← t) (part-front (padded (2 * c .room) plusZero path) rest 0 (length path) (omega arith) ∙ padded-filled (2 * c .room) plusZero path)
+        let l : length (padded (pointFloats * c .room) plusZero path) ≡ pointFloats * c .room = length-padded (pointFloats * c .room) plusZero path (omega arith) in
+        rw (← t) (part-front (padded (pointFloats * c .room) plusZero path) rest 0 (length path) (omega arith) ∙ padded-filled (pointFloats * c .room) plusZero path)
 
-    beyond-points : part (pathOf c (at c p) rest) filled (2 * c .room - filled) ≡ replicate (2 * c .room - filled) plusZero
+    beyond-points : part (pathOf c (at c p) rest) filled (pointFloats * c .room - filled) ≡ replicate (pointFloats * c .room - filled) plusZero
     unfolding pathOf
     beyond-points =
-        let t : length path ≡ filled = parts .path-twice p h in
+        let t : length path ≡ filled = parts .path-counted p h in
         let u : _ = parts .points-in p h in
-        let l : length (padded (2 * c .room) plusZero path) ≡ 2 * c .room = length-padded (2 * c .room) plusZero path (omega arith) in
+        let l : length (padded (pointFloats * c .room) plusZero path) ≡ pointFloats * c .room = length-padded (pointFloats * c .room) plusZero path (omega arith) in
         rw (← t)
-        (part-front (padded (2 * c .room) plusZero path) rest (length path) (2 * c .room - length path) (omega arith) ∙ padded-beyond (2 * c .room) plusZero path)
+        (part-front (padded (pointFloats * c .room) plusZero path) rest (length path) (pointFloats * c .room - length path) (omega arith) ∙ padded-beyond (pointFloats * c .room) plusZero path)
 
 -- ---- the matrix
 

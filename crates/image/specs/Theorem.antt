@@ -10,6 +10,7 @@ use lib.Ieee.{Float}
 use borrow.Author.Tests.{eqb-true, le-leb}
 use Rattle.binary64.specs.Number.{pick}
 use Rattle.stretch.specs.Stretch.{part}
+use Rattle.pde.specs.Path.{pointFloats, coordinatesOf}
 use Rattle.format.specs.Bytes.{Bytes}
 use Rattle.format.specs.Content.{Content, maxVertices, maxTriangles}
 use Rattle.format.specs.Sheet.{accepted, parse}
@@ -69,14 +70,14 @@ unfolding fieldOf normsOf gradientsOf pointsOf part runOf image
 image-handed c good s rest w =
     let shows : Shown c s (runOf c s) (image c s rest) = image-shown c good (facts c good) (parts c good) s rest w in
     let f : length (image c s rest .floats) ≡ floatsUsed c + length (rest .floats) = facts c good .floats-long (s .place) (s .mark) (rest .floats) (w .place-in) (w .mark-in) in
-    let l : length (image c s rest .path) ≡ 2 * c .room + length (rest .path) = facts c good .path-long (s .place) (rest .path) (w .place-in) in
+    let l : length (image c s rest .path) ≡ pointFloats * c .room + length (rest .path) = facts c good .path-long (s .place) (rest .path) (w .place-in) in
     let m : length (at c (s .place) .field .norms) ≤ c .limit + 1 = parts c good .norms-long (s .place) (w .place-in) in
     let n : at c (s .place) .trail .walk .points ≤ c .room = parts c good .points-in (s .place) (w .place-in) in
     record {
       field = counted-within c good (image c s rest .floats) (atX (vertexCount c) (triangleCount c)) (vertexCount c) (omega arith) ∙ shows .field;
       norms = counted-within c good (image c s rest .floats) (atNorms (vertexCount c) (triangleCount c)) (length (at c (s .place) .field .norms)) (omega arith) ∙ shows .norms;
       gradients = counted-within c good (image c s rest .floats) (atGradients (vertexCount c) (triangleCount c)) (2 * triangleCount c) (omega arith) ∙ shows .gradients;
-      points = rw (le-leb (2 * at c (s .place) .trail .walk .points) (length (image c s rest .path)) (omega arith)) (shows .points);
+      points = rw (le-leb (pointFloats * at c (s .place) .trail .walk .points) (length (image c s rest .path)) (omega arith)) (shows .points);
     }
 
 module _ (c : Task) (good : Sized c) (b : Buffers) (space : short (needs c) (lengthsOf b) ≡ 0) (ls : List Lent) where
@@ -107,7 +108,7 @@ module _ (c : Task) (good : Sized c) (b : Buffers) (space : short (needs c) (len
   pub gradients-of-calls : gradientsOf (held .run) (held .all .floats) ≡ reached .trail .gradients
   gradients-of-calls = handed-of-calls .gradients
 
-  pub points-of-calls : pointsOf (held .run) (held .all .path) ≡ reached .trail .path
+  pub points-of-calls : pointsOf (held .run) (held .all .path) ≡ coordinatesOf (reached .trail .path)
   points-of-calls = handed-of-calls .points
 
 -- ---- of a sheet, and the record and the buffers as opening left them

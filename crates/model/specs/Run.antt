@@ -40,11 +40,11 @@ pub record Field : Type 0 where
   pub norms : List Float
   pub end : ℕ
 
--- the path: x and y of each triangle's gradient; position, triangle, entry edge, how many points, and the path's end; x and y of each point; how many crossings were made
+-- the path: x and y of each triangle's gradient; position, triangle, entry edge, how many points, and the path's end; the points; how many crossings were made
 pub record Trail : Type 0 where
   pub gradients : List Float
   pub walk : Walk
-  pub path : List Float
+  pub path : List Point
   pub crossings : ℕ
 
 pub record State : Type 0 where
@@ -92,7 +92,7 @@ solving c f = solved (c .limit) f (Solver.pass flat (matrixOf c) (c .tolerance) 
 
 -- the first point, or the end
 abbrev pub set-out : Start → ℕ → List Float → Trail
-set-out (Start.At p t e) otherwise gs = record { gradients = gs; walk = record { position = p; triangle = t; edge = e; points = 1; end = 0 }; path = p .x ∷ p .y ∷ []; crossings = 0 }
+set-out (Start.At p t e) otherwise gs = record { gradients = gs; walk = record { position = p; triangle = t; edge = e; points = 1; end = 0 }; path = p ∷ []; crossings = 0 }
 set-out Start.Nothing otherwise gs = record { gradients = gs; walk = ended nowhere otherwise; path = []; crossings = 0 }
 
 -- Gradients are filled; a given start lies in the first triangle that accepts it (else end 8), otherwise `pickStart` (else end 9).

@@ -395,10 +395,10 @@ crossings-counted c p n h = from (λ (r : ℕ). r ≤ lastPlace c → at c r .tr
 -- ---- what grows
 
 -- a list begins with another
-abbrev pub Begins : List Float → List Float → Type 0
+abbrev pub Begins : {A : Type 0} → List A → List A → Type 0
 Begins short long = short ≡ take (length short) long
 
-begins-more : (a b more : List Float) → Begins a b → Begins a (b ++ more)
+begins-more : {A : Type 0} (a b more : List A) → Begins a b → Begins a (b ++ more)
 begins-more a b more h =
     let l : length a ≤ length b = omega (arith, ap length h, length-take (length a) b) in
     h ∙ sym (take-append-le (length a) b more l)
@@ -479,15 +479,15 @@ gradients-sized c =
     (λ (k : ℕ) (n : 0 < k) (m : k ≤ 9). gradients-length (c .vertices) us (c .triangles)))
     (λ (us : List Float) (t : Trail) (h : 0 < t .walk .points) (ih : length (t .gradients) ≡ 2 * triangleCount c). ap length (crossing-gradients c us t) ∙ ih)
 
--- two numbers for each point
-pub path-sized : (c : Task) (p : ℕ) → length (at c p .trail .path) ≡ 2 * at c p .trail .walk .points
+-- as many points as are counted
+pub path-sized : (c : Task) (p : ℕ) → length (at c p .trail .path) ≡ at c p .trail .walk .points
 path-sized c =
-    trail-ind c (λ (t : Trail). length (t .path) ≡ 2 * t .walk .points) refl
+    trail-ind c (λ (t : Trail). length (t .path) ≡ t .walk .points) refl
     (λ (us : List Float).
-    starting-elim (λ (t : Trail). length (t .path) ≡ 2 * t .walk .points) c us
+    starting-elim (λ (t : Trail). length (t .path) ≡ t .walk .points) c us
     (λ (q : Point) (t e : ℕ) (h : t < triangleCount c) (k : e ≤ 3). refl)
     (λ (k : ℕ) (n : 0 < k) (m : k ≤ 9). refl))
-    (λ (us : List Float) (t : Trail) (h : 0 < t .walk .points) (ih : length (t .path) ≡ 2 * t .walk .points). crossing-path-length c us t ih)
+    (λ (us : List Float) (t : Trail) (h : 0 < t .walk .points) (ih : length (t .path) ≡ t .walk .points). crossing-path-length c us t ih)
 
 pub points-bound : (c : Task) → 1 ≤ c .room → (p : ℕ) → at c p .trail .walk .points ≤ c .room
 points-bound c r =
@@ -525,21 +525,21 @@ pub walk-edge : (c : Task) → Sized c → (p : ℕ) → at c p .trail .walk .ed
 walk-edge c s p = inside c s p .edge
 
 -- every point stays
-nil : (l : List Float) → length l ≡ 0 → l ≡ []
+nil : (l : List Point) → length l ≡ 0 → l ≡ []
 nil [] h = refl
 nil (x ∷ xs) h = absurd (omega arith)
 
-path-next : (c : Task) (p : ℕ) → (more : List Float) × (at c (suc p) .trail .path ≡ at c p .trail .path ++ more)
+path-next : (c : Task) (p : ℕ) → (more : List Point) × (at c (suc p) .trail .path ≡ at c p .trail .path ++ more)
 unfolding at
 path-next c p =
-    pass-elim (λ (t : State). (more : List Float) × (t .trail .path ≡ at c p .trail .path ++ more)) c (at c p)
+    pass-elim (λ (t : State). (more : List Point) × (t .trail .path ≡ at c p .trail .path ++ more)) c (at c p)
     (λ (h : finished (at c p) ≡ true). same)
     (λ (h : at c p .trail .walk .end ≡ 0) (e : at c p .field .end ≡ 0). same)
     (λ (h : at c p .trail .walk .end ≡ 0) (e : at c p .field .end ≢ 0) (z : at c p .trail .walk .points ≡ 0).
     (starting c (at c p .field .solve .x) .path, rw (nil (at c p .trail .path) (omega (arith, path-sized c p)))))
     (λ (h : at c p .trail .walk .end ≡ 0) (e : at c p .field .end ≢ 0) (z : at c p .trail .walk .points ≢ 0). crossing-path c (at c p .field .solve .x) (at c p .trail))
   where
-    same : (more : List Float) × (at c p .trail .path ≡ at c p .trail .path ++ more)
+    same : (more : List Point) × (at c p .trail .path ≡ at c p .trail .path ++ more)
     same = ([], sym (append-nil (at c p .trail .path)))
 
 pub path-grows : (c : Task) (q p : ℕ) → q ≤ p → at c q .trail .path ≡ take (length (at c q .trail .path)) (at c p .trail .path)

@@ -6,7 +6,7 @@ use mathlib.Core.List.{List, [], _∷_}
 use mathlib.Core.Option.{none, some}
 use lib.Ieee.{Float, nan, binary64, ofBits, toBits}
 use Rattle.plane.specs.Plane.{point}
-use Rattle.pde.specs.Path.{lengthFrom, lengthOf}
+use Rattle.pde.specs.Path.{coordinatesOf, lengthFrom, lengthOf}
 use Rattle.format.specs.declared.Whole.{Whole}
 use Rattle.format.specs.declared.Real.{Real}
 use Rattle.format.specs.declared.Settings.{Settings}
@@ -129,7 +129,7 @@ unfolding shown
 s1-shown = refl
 
 -- the length of its path: 0.8, left to right from +0
-pub s1-length : toBits binary64 (lengthOf (at (task s1) (lastPlace (task s1)) .trail .path)) ≡ 0x3fe9_9999_9999_999a
+pub s1-length : toBits binary64 (lengthOf (coordinatesOf (at (task s1) (lastPlace (task s1)) .trail .path))) ≡ 0x3fe9_9999_9999_999a
 unfolding shown lengthOf lengthFrom
 s1-length = refl
 

@@ -16,7 +16,7 @@ use Rattle.pde.specs.Search.{firstOf}
 use Rattle.pde.specs.Start.{containedIn, triangleContaining, innerEdge, innerEdgeOf, firstInner, leastFrom, leastVertex, centroidWith, firstWith, pickStart}
 use Rattle.pde.specs.Exit.{distance, considered, nearestOf, namesBack, entryEdge, cutEdge, cutTriangle, cutMatch}
 use Rattle.pde.specs.Crossing.{gradientAt, magnitude, direction, valueIn, entering, entered, unentered, beyond, pieces, crossingAlong, crossing}
-use Rattle.pde.specs.Path.{partWay, along, between, closing, walked}
+use Rattle.pde.specs.Path.{coordinatesOf, partWay, along, between, closing, walked}
 use Rattle.format.specs.Bytes.{number, bytes, numbers, allBytes}
 use Rattle.format.specs.Content.{Content}
 use Rattle.format.specs.Refusal.{each, finite, coordinate, positive, settingFault, present, missing}
@@ -44,12 +44,12 @@ shownOf p s = record {
   us = bits (s .field .solve .x);
   rs = bits (s .field .norms);
   gs = bits (s .trail .gradients);
-  ps = bits (s .trail .path);
+  ps = bits (coordinatesOf (s .trail .path));
 }
 
 -- Whatever unfolds this unfolds every definition that the run computes with.
 unfoldable pub shown : Content → Shown
-unfolding zipWith ofBits toBits add sub mul div neg lt le eq ofInt absOf clampOf atLeast ceilCount root rootOf rootPattern wholeRoot minus dotOf lengthSquared signOf pointInTriangle rayLineIntersection barycentricWeights interpolated dotFrom dot rowFrom rowProduct matVec vertex corner neighbour tagOf free heldValue trianglePushes pushes insert inserted row rows allCoupled settled rightSide cgPass begun triangleGradient gradientOf gradients firstOf containedIn triangleContaining innerEdge innerEdgeOf firstInner leastFrom leastVertex centroidWith firstWith pickStart distance considered nearestOf namesBack entryEdge cutEdge cutTriangle cutMatch gradientAt magnitude direction valueIn entering entered unentered beyond crossingAlong crossing pieces partWay along between closing walked taskOf matrixOf rightOf place0 solved solving startFrom starting crossed crossingPass nextOf passBy pass at lastFrom lastPlace
+unfolding zipWith ofBits toBits add sub mul div neg lt le eq ofInt absOf clampOf atLeast ceilCount root rootOf rootPattern wholeRoot minus dotOf lengthSquared signOf pointInTriangle rayLineIntersection barycentricWeights interpolated dotFrom dot rowFrom rowProduct matVec vertex corner neighbour tagOf free heldValue trianglePushes pushes insert inserted row rows allCoupled settled rightSide cgPass begun triangleGradient gradientOf gradients firstOf containedIn triangleContaining innerEdge innerEdgeOf firstInner leastFrom leastVertex centroidWith firstWith pickStart distance considered nearestOf namesBack entryEdge cutEdge cutTriangle cutMatch gradientAt magnitude direction valueIn entering entered unentered beyond crossingAlong crossing pieces coordinatesOf partWay along between closing walked taskOf matrixOf rightOf place0 solved solving startFrom starting crossed crossingPass nextOf passBy pass at lastFrom lastPlace
 shown c = shownOf (lastPlace (task c)) (at (task c) (lastPlace (task c)))
 
 -- a content's sheet, read

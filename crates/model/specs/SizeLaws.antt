@@ -13,6 +13,7 @@ use Rattle.binary64.specs.Arith.{_⊘_}
 use Rattle.binary64.specs.Constants.{plusZero}
 use Rattle.binary64.specs.Number.{pick, absOf}
 use Rattle.binary64.specs.Root.{root}
+use Rattle.plane.specs.declared.Point.{Point}
 use Rattle.stretch.specs.Vec.{dot, plus, less}
 use Rattle.stretch.specs.VecLaws.{length-zip}
 use Rattle.sparse.specs.Sparse.{Entry, matVec}
@@ -172,7 +173,7 @@ gradients-length vs us (i ∷ j ∷ k ∷ ts) = omega (arith, gradients-length v
 
 -- ---- the points
 
-pub crossing-path-length : (c : Task) (us : List Float) (t : Trail) → length (t .path) ≡ 2 * t .walk .points → length (crossingPass c us t .path) ≡ 2 * crossingPass c us t .walk .points
+pub crossing-path-length : (c : Task) (us : List Float) (t : Trail) → length (t .path) ≡ t .walk .points → length (crossingPass c us t .path) ≡ crossingPass c us t .walk .points
 unfolding crossingPass crossed
 crossing-path-length c us t h = rw (length-append, h) (walked-more (c .room) (eqb (t .crossings + 1) (factor * triangleCount c)) (t .walk) _)
 
@@ -195,7 +196,7 @@ crossing-walk c s us t h =
     (crossing-in rule (c .vertices) (c .triangles) (c .neighbours) (triangleCount c) us (neighbouring c s) (t .gradients) (c .step) (t .walk .position) (t .walk .triangle) (t .walk .edge) (h .triangle-below)) h
 
 -- the path after a crossing begins with the path before it
-pub crossing-path : (c : Task) (us : List Float) (t : Trail) → (more : List Float) × (crossingPass c us t .path ≡ t .path ++ more)
+pub crossing-path : (c : Task) (us : List Float) (t : Trail) → (more : List Point) × (crossingPass c us t .path ≡ t .path ++ more)
 unfolding crossingPass crossed
 crossing-path c us t = (_, refl)
 

@@ -1,5 +1,6 @@
 -- How far a run can go, and document 01's space rule. Definitions only. Assumes nothing.
 use Prim.Native.Nat.{ℕ, _+_, _*_}
+use Rattle.pde.specs.Path.{pointFloats}
 
 -- crossings for each triangle
 abbrev pub factor : ℕ
@@ -18,4 +19,4 @@ abbrev pub wordSpace : ℕ → ℕ → ℕ
 wordSpace n triangles = 8 * n + 32 * triangles + 32
 
 abbrev pub pathSpace : ℕ → ℕ
-pathSpace room = 2 * room
+pathSpace room = pointFloats * room

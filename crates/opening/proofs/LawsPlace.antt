@@ -24,6 +24,7 @@ use Rattle.laplace.specs.Whole.{pushesIn, rowsFor, Assembled}
 use Rattle.conjugate.specs.declared.Vectors.{Vectors}
 use Rattle.conjugate.specs.Placed as Solving
 use Rattle.conjugate.specs.Placed.{placed, startOf}
+use Rattle.pde.specs.Path.{pointFloats, coordinatesOf}
 use Rattle.format.specs.Bytes.{Bytes}
 use Rattle.format.specs.Content.{defaultLimit}
 use Rattle.format.specs.Sheet.{accepted, parse, contentOf}
@@ -158,7 +159,7 @@ module _ (sheet : List ℕ) (h : Header) (plan : Plan) (b : Buffers) (s : Suffic
   unfolding needs
   words-long = omega (arith, s .space .words)
 
-  path-long : 2 * c .room ≤ length (b .path)
+  path-long : pointFloats * c .room ≤ length (b .path)
   unfolding needs
   path-long = s .space .path
 
@@ -190,12 +191,12 @@ module _ (sheet : List ℕ) (h : Header) (plan : Plan) (b : Buffers) (s : Suffic
         sound = ready (planOf c) (wordsOf c spare) k w (words-sound c good spare) .sound;
       })
 
-  path-opened : splice (b .path) 0 (replicate (2 * c .room) plusZero) ≡ pathOf c (place0 c) (drop (2 * c .room) (b .path))
-  unfolding pathOf place0
+  path-opened : splice (b .path) 0 (replicate (pointFloats * c .room) plusZero) ≡ pathOf c (place0 c) (drop (pointFloats * c .room) (b .path))
+  unfolding pathOf place0 coordinatesOf
   path-opened =
       let e : take 0 (b .path) ≡ [] = sym (part-take (b .path) 0) ∙ part-zero (b .path) 0 in
-      let f : 0 + 2 * c .room ≡ 2 * c .room = omega arith in
-      splice-is (b .path) (replicate (2 * c .room) plusZero) 0 (2 * c .room) (length-replicate (2 * c .room) plusZero) (omega (arith, path-long))
+      let f : 0 + pointFloats * c .room ≡ pointFloats * c .room = omega arith in
+      splice-is (b .path) (replicate (pointFloats * c .room) plusZero) 0 (pointFloats * c .room) (length-replicate (pointFloats * c .room) plusZero) (omega (arith, path-long))
       ∙ rw (e, f, padded-nil)
 
   pub stands : (floats₁ floats₂ path′ : List Float) (words₁ : List ℕ) (rs : Float) (run : Run) → LaidOut c (b .floats) (b .words) floats₁ words₁ → Begun plan words₁ floats₁ rs floats₂
@@ -204,7 +205,7 @@ module _ (sheet : List ℕ) (h : Header) (plan : Plan) (b : Buffers) (s : Suffic
   stands floats₁ floats₂ path′ words₁ rs run l g p r =
       let e : rs ≡ place0 c .field .solve .rs = g .sum ∙ rw (plan-of, l .words-are, l .floats-are) (sum-opened c good (b .floats) floats-long spare) in
       let f : floats₂ ≡ floatsOf c (place0 c) none (drop (floatsUsed c) (b .floats)) = g .floats-are ∙ rw (plan-of, l .words-are, l .floats-are) (floats-opened c good (b .floats) floats-long spare) in
-      let q : path′ ≡ pathOf c (place0 c) (drop (2 * c .room) (b .path)) = p ∙ ap (λ (x : Plan). splice (b .path) 0 (replicate (2 * x .room) plusZero)) plan-of ∙ path-opened in
+      let q : path′ ≡ pathOf c (place0 c) (drop (pointFloats * c .room) (b .path)) = p ∙ ap (λ (x : Plan). splice (b .path) 0 (replicate (2 * x .room) plusZero)) plan-of ∙ path-opened in
       record {
         run-is = r ∙ rw (plan-of, e);
         held = rw (f, q, l .words-are);

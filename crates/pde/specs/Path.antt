@@ -1,4 +1,4 @@
--- The points of a crossing, the room rule and the ends of the path (document 01, Crossing), and a path's length. Definitions only. Assumes nothing.
+-- The points of a crossing, their coordinates in a row, the room rule and the ends of the path (document 01, Crossing), and a path's length. Definitions only. Assumes nothing.
 use Prim.Native.Nat.{ℕ, zero, suc, _+_, _-_}
 use mathlib.Core.Bool.{Bool}
 use mathlib.Core.List.{List, [], _∷_, _++_}
@@ -15,6 +15,17 @@ use Rattle.pde.specs.declared.Crossing.{Crossing}
 use Rattle.pde.specs.declared.Walk.{Walk}
 use Rattle.pde.specs.Exit.{distance}
 
+-- ---- points as floats
+
+-- how many floats a point takes
+abbrev pub pointFloats : ℕ
+pointFloats = 2
+
+-- x and y of each point, one point after the other
+unfoldable pub coordinatesOf : List Point → List Float
+coordinatesOf [] = []
+coordinatesOf (p ∷ ps) = p .x ∷ p .y ∷ coordinatesOf ps
+
 -- ---- the points of a crossing
 
 -- the point i of n parts from p on the way by (dx, dy)
@@ -24,19 +35,19 @@ partWay p dx dy n i =
     point (p .x ⊕ t ⊗ dx) (p .y ⊕ t ⊗ dy)
 
 -- the first k points of n parts from p on the way by (dx, dy): 1, 2, .., k
-unfoldable pub along : Point → Float → Float → ℕ → ℕ → List Float
+unfoldable pub along : Point → Float → Float → ℕ → ℕ → List Point
 along p dx dy n zero = []
-along p dx dy n (suc k) = let w = partWay p dx dy n (suc k) in along p dx dy n k ++ (w .x ∷ w .y ∷ [])
+along p dx dy n (suc k) = along p dx dy n k ++ (partWay p dx dy n (suc k) ∷ [])
 
 -- those between p and q
-unfoldable pub between : Point → Point → ℕ → ℕ → List Float
+unfoldable pub between : Point → Point → ℕ → ℕ → List Point
 between p q n k = along p (q .x ⊖ p .x) (q .y ⊖ p .y) n k
 
 -- the exit is put down by end 5 alone
-unfoldable pub closing : Point → Beyond → List Float
+unfoldable pub closing : Point → Beyond → List Point
 closing q Beyond.Border = []
 closing q Beyond.Unnamed = []
-closing q Beyond.Above = q .x ∷ q .y ∷ []
+closing q Beyond.Above = q ∷ []
 closing q (Beyond.Into t e) = []
 
 abbrev pub closes : Beyond → ℕ
@@ -68,7 +79,7 @@ adds Crossing.Stuck = 0
 adds (Crossing.Leaves q n b) = n - 1 + closes b
 
 -- its points, where they fit the room
-abbrev pub added : ℕ → Walk → Crossing → List Float
+abbrev pub added : ℕ → Walk → Crossing → List Point
 added room w Crossing.Dull = []
 added room w Crossing.Stuck = []
 added room w (Crossing.Leaves q n b) = pick (ltb room (w .points + (n - 1 + closes b))) [] (between (w .position) q n (n - 1) ++ closing q b)

@@ -1,7 +1,7 @@
 -- Laws of the points that a crossing puts down and of the path after it: how many there are, that they fit the room, and where the path then stands. Assumes nothing.
-use mathlib.Core.Path.{_≡_, refl}
+use mathlib.Core.Path.{_≡_, refl, ap}
 use mathlib.Core.Bool.{Bool, true, false}
-use mathlib.Core.List.{List, [], _++_}
+use mathlib.Core.List.{List, [], _∷_, _++_}
 use Prim.Native.Nat.{ℕ, zero, suc, _+_, _-_, _*_, _≤_, _<_}
 use native.Mathlib.Omega.{arith}
 use lib.Dec.{ltb}
@@ -13,21 +13,31 @@ use Rattle.plane.specs.declared.Point.{Point}
 use Rattle.pde.specs.declared.Beyond.{Beyond}
 use Rattle.pde.specs.declared.Crossing.{Crossing}
 use Rattle.pde.specs.declared.Walk.{Walk}
-use Rattle.pde.specs.Path.{along, between, closing, closes, ended, gone, added, walked}
+use Rattle.pde.specs.Path.{pointFloats, coordinatesOf, along, between, closing, closes, ended, gone, added, walked}
 use Rattle.pde.specs.Bounds.{BeyondIn, CrossingIn}
 
 -- ---- how many
 
-pub length-along : (p : Point) (dx dy : Float) (n k : ℕ) → length (along p dx dy n k) ≡ 2 * k
+pub length-coordinates : (ps : List Point) → length (coordinatesOf ps) ≡ pointFloats * length ps
+unfolding coordinatesOf
+length-coordinates [] = refl
+length-coordinates (p ∷ ps) = omega (arith, length-coordinates ps)
+
+pub coordinates-append : (ps qs : List Point) → coordinatesOf (ps ++ qs) ≡ coordinatesOf ps ++ coordinatesOf qs
+unfolding coordinatesOf
+coordinates-append [] qs = refl
+coordinates-append (p ∷ ps) qs = ap (λ (l : List Float). p .x ∷ p .y ∷ l) (coordinates-append ps qs)
+
+pub length-along : (p : Point) (dx dy : Float) (n k : ℕ) → length (along p dx dy n k) ≡ k
 unfolding along
 length-along p dx dy n zero = refl
 length-along p dx dy n (suc k) = simp (length-append, length-along p dx dy n k) (omega arith)
 
-pub length-between : (p q : Point) (n k : ℕ) → length (between p q n k) ≡ 2 * k
+pub length-between : (p q : Point) (n k : ℕ) → length (between p q n k) ≡ k
 unfolding between
 length-between p q n k = length-along p _ _ n k
 
-pub length-closing : (q : Point) (b : Beyond) → length (closing q b) ≡ 2 * closes b
+pub length-closing : (q : Point) (b : Beyond) → length (closing q b) ≡ closes b
 unfolding closing
 length-closing q Beyond.Border = refl
 length-closing q Beyond.Unnamed = refl
@@ -49,7 +59,7 @@ gone-points last w q Beyond.Above k = refl
 gone-points last w q (Beyond.Into t e) k = refl
 
 -- the points after a crossing are those before it and those that it put down, and the room holds them
-pub walked-more : (room : ℕ) (last : Bool) (w : Walk) (c : Crossing) → 2 * w .points + length (added room w c) ≡ 2 * walked room last w c .points
+pub walked-more : (room : ℕ) (last : Bool) (w : Walk) (c : Crossing) → w .points + length (added room w c) ≡ walked room last w c .points
 unfolding walked
 walked-more room last w Crossing.Dull = omega arith
 walked-more room last w Crossing.Stuck = omega arith
@@ -58,13 +68,13 @@ walked-more room last w (Crossing.Leaves q n b) = by (ltb room (w .points + k))
     k : ℕ
     k = n - 1 + closes b
 
-    new : List Float
+    new : List Point
     new = between (w .position) q n (n - 1) ++ closing q b
 
-    by : (t : Bool) → 2 * w .points + length (pick t [] new) ≡ 2 * (pick t (ended w 7) (gone last w q b k) .points)
+    by : (t : Bool) → w .points + length (pick t [] new) ≡ pick t (ended w 7) (gone last w q b k) .points
     by true = omega arith
     by false =
-        let l : length new ≡ 2 * k = simp (length-append, length-between, length-closing) (omega arith) in
+        let l : length new ≡ k = simp (length-append, length-between, length-closing) (omega arith) in
         omega (arith, gone-points last w q b k)
 
 pub walked-most : (room : ℕ) (last : Bool) (w : Walk) (c : Crossing) → w .points ≤ room → walked room last w c .points ≤ room

@@ -7,6 +7,7 @@ use lib.Dec.{ltb, eqb}
 use lib.ListN.{length, take}
 use Rattle.binary64.specs.Number.{pick}
 use Rattle.format.specs.Sheet.{Parsed, accepted, refused, parse}
+use Rattle.pde.specs.Path.{coordinatesOf}
 use Rattle.model.specs.Task.{Task, task}
 use Rattle.model.specs.Space.{pathSpace}
 use Rattle.model.specs.Machine.{Space, Counter, needs, short}
@@ -31,7 +32,7 @@ places = record { floats = 8192; words = 16384; path = pathSpace 4096 }
 
 -- what stands at a place of the uninterrupted run
 unfoldable pub stateText : ℕ → State → List ℕ
-stateText place s = runText place (s .field .end) (s .trail .walk .end) (s .field .solve .x) (s .field .norms) (s .trail .gradients) (s .trail .path)
+stateText place s = runText place (s .field .end) (s .trail .walk .end) (s .field .solve .x) (s .field .norms) (s .trail .gradients) (coordinatesOf (s .trail .path))
 
 -- of a task: its last place, where the places suffice
 unfoldable pub taskText : Task → List ℕ

@@ -16,8 +16,8 @@ ghost use Rattle.pde.specs.Work.{Roomy};
 
 // The first k points between p and q, of n parts, written from `at` on.
 pub fn put_points(path: &mut [f64], at: usize, p: Point, q: Point, n: usize, k: usize)
-    requires { ⌜ at + 2 * k ≤ Lists.length (now path) ⌝ }
-    ensures { λ _. ⌜ now (path .exit) ≡ splice (now (path .entry)) at (Paths.between p q n k) ⌝ }
+    requires { ⌜ at + Paths.pointFloats * k ≤ Lists.length (now path) ⌝ }
+    ensures { λ _. ⌜ now (path .exit) ≡ splice (now (path .entry)) at (Paths.coordinatesOf (Paths.between p q n k)) ⌝ }
 {
     let dx = q.x - p.x;
     let dy = q.y - p.y;
@@ -56,8 +56,8 @@ fn closes(b: Beyond) -> usize
 
 // The exit is put down by end 5 alone.
 fn put_closing(path: &mut [f64], at: usize, q: Point, b: Beyond)
-    requires { ⌜ at + 2 * Paths.closes b ≤ Lists.length (now path) ⌝ }
-    ensures { λ _. ⌜ now (path .exit) ≡ splice (now (path .entry)) at (Paths.closing q b) ⌝ }
+    requires { ⌜ at + Paths.pointFloats * Paths.closes b ≤ Lists.length (now path) ⌝ }
+    ensures { λ _. ⌜ now (path .exit) ≡ splice (now (path .entry)) at (Paths.coordinatesOf (Paths.closing q b)) ⌝ }
 {
     match b {
         Beyond::Border => {}
@@ -160,7 +160,7 @@ pub fn after(room: usize, last: bool, w: Walk, c: Crossing) -> Walk
 // The points up to the exit at q, in n pieces, where the room holds them.
 fn put_leaving(path: &mut [f64], room: usize, w: Walk, q: Point, n: usize, b: Beyond)
     requires { ⌜ Roomy (now path) room w ⌝ }
-    ensures { λ _. ⌜ now (path .exit) ≡ splice (now (path .entry)) (2 * w .points) (Paths.added room w (Crossing.Leaves q n b)) ⌝ }
+    ensures { λ _. ⌜ now (path .exit) ≡ splice (now (path .entry)) (Paths.pointFloats * w .points) (Paths.coordinatesOf (Paths.added room w (Crossing.Leaves q n b))) ⌝ }
 {
     let from = w.position;
     let points = w.points;
@@ -176,7 +176,7 @@ fn put_leaving(path: &mut [f64], room: usize, w: Walk, q: Point, n: usize, b: Be
 // The points of a crossing, behind those of the path.
 pub fn put_added(path: &mut [f64], room: usize, w: Walk, c: Crossing)
     requires { ⌜ Roomy (now path) room w ⌝ }
-    ensures { λ _. ⌜ now (path .exit) ≡ splice (now (path .entry)) (2 * w .points) (Paths.added room w c) ⌝ }
+    ensures { λ _. ⌜ now (path .exit) ≡ splice (now (path .entry)) (Paths.pointFloats * w .points) (Paths.coordinatesOf (Paths.added room w c)) ⌝ }
 {
     match c {
         Crossing::Dull => {}

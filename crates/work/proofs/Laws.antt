@@ -12,7 +12,7 @@ use lib.Seq.{length-front}
 use lib.Ieee.{Float}
 use Rattle.plane.specs.declared.Point.{Point}
 use Rattle.pde.specs.declared.Crossing.{Crossing}
-use Rattle.pde.specs.Path.{added}
+use Rattle.pde.specs.Path.{pointFloats, coordinatesOf, added}
 use Rattle.stretch.specs.Stretch.{splice}
 use Rattle.stretch.specs.StretchLaws.{splice-one, splice-snoc}
 use Rattle.work.specs.declared.Gives.{Gives}
@@ -42,10 +42,11 @@ pub gave-norm : (plan : Plan) (s : Stand) (g : Gives) (m p : List Float) (v : Fl
 gave-norm plan s g m p v k e h = rw (e, h) (sym (splice-one m (atNorms (plan .n) (plan .t) + s .norms) v), refl)
 
 pub gave-first : (plan : Plan) (s : Stand) (g : Gives) (m p p′ : List Float) (q : Point) → g ≡ Gives.First q → p′ ≡ splice p 0 (q .x ∷ q .y ∷ []) → Delivered plan s g m p m p′
+unfolding coordinatesOf
 gave-first plan s g m p p′ q e h = rw e (refl, h)
 
 pub gave-crossed : (plan : Plan) (s : Stand) (g : Gives) (m p p′ : List Float) (x : Crossing) → g ≡ Gives.Crossed x
-    → p′ ≡ splice p (2 * s .walk .points) (added (plan .room) (s .walk) x) → Delivered plan s g m p m p′
+    → p′ ≡ splice p (pointFloats * s .walk .points) (coordinatesOf (added (plan .room) (s .walk) x)) → Delivered plan s g m p m p′
 gave-crossed plan s g m p p′ x e h = rw e (refl, h)
 
 -- ---- a pass on the whole buffers

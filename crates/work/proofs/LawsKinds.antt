@@ -33,7 +33,7 @@ use Rattle.pde.specs.declared.Start.{Start}
 use Rattle.pde.specs.declared.Walk.{Walk}
 use Rattle.pde.specs.declared.Crossing.{Crossing}
 use Rattle.pde.specs.Start.{triangleContaining, pickStart}
-use Rattle.pde.specs.Path.{ended, walked, added}
+use Rattle.pde.specs.Path.{pointFloats, coordinatesOf, ended, walked, added}
 use Rattle.pde.specs.PathLaws.{walked-more}
 use Rattle.pde.specs.Crossing.{gradientAt, crossing}
 use Rattle.pde.specs.Work.{Fielded, fieldOf, gradientsOf, crossingIn}
@@ -254,7 +254,7 @@ crossed-walks plan words s s′ m p m′ p′ x c =
     rw e (x .solved, λ z. x .some (omega (arith, k, z)))
 
 pub cross-comes : (plan : Plan) (words : List ℕ) (s : Stand) (m p p′ : List Float) (c : Crossing) (s′ : Stand) (k : ℕ) → k ≡ atNorms (plan .n) (plan .t) → Crosses s
-    → c ≡ crossingOf plan words (take k m) s → p′ ≡ splice p (2 * s .walk .points) (added (plan .room) (s .walk) c) → s′ ≡ crossedStand plan s c → Comes (once plan words (work m p s)) s′ m p′
+    → c ≡ crossingOf plan words (take k m) s → p′ ≡ splice p (pointFloats * s .walk .points) (coordinatesOf (added (plan .room) (s .walk) c)) → s′ ≡ crossedStand plan s c → Comes (once plan words (work m p s)) s′ m p′
 cross-comes plan words s m p p′ c s′ k e x ec ep es =
     once-comes plan words s m p (take k m) m p′ (record { stand = s′; gives = Gives.Crossed c }) k e
     (steps-cross plan words (take k m) s _ (take k m) (x .unended) (x .solved) (x .some) (cross-leads plan words (take k m) s c s′ ec es))

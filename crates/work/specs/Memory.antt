@@ -20,7 +20,7 @@ use Rattle.pde.specs.declared.Walk.{Walk}
 use Rattle.pde.specs.declared.Crossing.{Crossing}
 use Rattle.pde.specs.Start.{triangleContaining, pickStart}
 use Rattle.pde.specs.Crossing.{crossing}
-use Rattle.pde.specs.Path.{ended, walked, added}
+use Rattle.pde.specs.Path.{pointFloats, coordinatesOf, ended, walked, added}
 use Rattle.model.specs.Space.{factor}
 use Rattle.model.specs.SolvedPlace.{solvedAt}
 use Rattle.model.specs.Run.{rule, nowhere, Next, over, solve, begin, cross, nextBy}
@@ -159,8 +159,8 @@ floatsGiven plan s (Gives.Crossed x) m = m
 abbrev pub pathGiven : Plan → Stand → Gives → List Float → List Float
 pathGiven plan s Gives.Nothing p = p
 pathGiven plan s (Gives.Norm v) p = p
-pathGiven plan s (Gives.First q) p = splice p 0 (q .x ∷ q .y ∷ [])
-pathGiven plan s (Gives.Crossed x) p = splice p (2 * s .walk .points) (added (plan .room) (s .walk) x)
+pathGiven plan s (Gives.First q) p = splice p 0 (coordinatesOf (q ∷ []))
+pathGiven plan s (Gives.Crossed x) p = splice p (pointFloats * s .walk .points) (coordinatesOf (added (plan .room) (s .walk) x))
 
 -- the part of the floats that a pass works on
 abbrev pub frontOf : Plan → List Float → List Float
@@ -210,7 +210,7 @@ pathless place rs norms e = record { place = place; rs = rs; norms = norms; end 
 
 -- the path's places that are filled, and the gradients, are +0 again
 abbrev pub pathErased : Stand → List Float → List Float
-pathErased s p = splice p 0 (replicate (2 * s .walk .points) plusZero)
+pathErased s p = splice p 0 (replicate (pointFloats * s .walk .points) plusZero)
 
 abbrev pub gradientsErased : Plan → List Float → List Float
 gradientsErased plan m = splice m (atGradients (plan .n) (plan .t)) (replicate (2 * plan .t) plusZero)

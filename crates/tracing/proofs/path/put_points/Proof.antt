@@ -4,14 +4,14 @@ use Prim.Native.Nat.{_-_, _≤_}
 use native.Mathlib.Omega.{arith}
 use borrow.Author.Needs.{needs}
 use lib.ListN.{length, length-set}
-use Rattle.pde.specs.Path.{along}
+use Rattle.pde.specs.Path.{coordinatesOf, along}
 use Rattle.tracing.proofs.PointLaws.{along-none, along-step, along-done}
 use Rattle.stretch.specs.Stretch.{splice}
 use Rattle.tracing.proofs.path.put_points.Statement.{statement}
 use Rattle.tracing.proofs.path.put_points.Tie as tie
 
 abbrev Inv-loop : tie.InvT-loop
-Inv-loop path₀ at p n k dx dy parts i₀ path i = (i ≤ k) × (length path ≡ length path₀) × (path ≡ splice path₀ at (along p dx dy n i))
+Inv-loop path₀ at p n k dx dy parts i₀ path i = (i ≤ k) × (length path ≡ length path₀) × (path ≡ splice path₀ at (coordinatesOf (along p dx dy n i)))
 
 abbrev μ-loop : tie.MeasureT-loop
 μ-loop path₀ at p n k dx dy parts i₀ path i = k - i
