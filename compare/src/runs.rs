@@ -199,6 +199,7 @@ pub fn write(folder: &str, seed: u64) {
     all.extend(refused());
     all.extend(small(seed));
     let (mut input, mut output) = (Vec::new(), String::new());
+    let mut any = 1usize;
     for case in &all {
         let mut number = |k: usize| input.extend((k as u32).to_le_bytes());
         number(case.sheet.len());
@@ -206,8 +207,10 @@ pub fn write(folder: &str, seed: u64) {
         let mut number = |k: usize| input.extend((k as u32).to_le_bytes());
         number(case.calls.len());
         for (call, lent) in &case.calls {
+            // no call looks at its third number
+            any = (any * 1_103_515_245 + 12_345) % 4_294_967_296;
             call.numbers().iter().for_each(|k| number(*k as usize));
-            number(0);
+            number(any);
             lent.iter().for_each(|k| number(*k));
         }
         writeln!(output, "{}", line(case)).unwrap();

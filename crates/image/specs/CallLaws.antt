@@ -3,7 +3,11 @@
 use Prim.Native.Nat.{_≤_}
 use mathlib.Core.Path.{_≡_, refl, sym, ap}
 use mathlib.Core.Bool.{Bool, true, false, _&&_, _||_, false≢true}
-use lib.Dec.{ltb, eqb}
+use mathlib.Core.List.{List, []}
+use lib.Dec.{leb, ltb, eqb}
+use lib.ListN.{length}
+use lib.Ieee.{Float}
+use Rattle.stretch.specs.Stretch.{part}
 use borrow.Author.Tests.{le-leb, ltb-false, ne-eqb}
 use Rattle.binary64.specs.Number.{pick}
 use Rattle.format.specs.Content.{maxVertices, maxTriangles, maxLimit, maxRoom}
@@ -11,8 +15,10 @@ use Rattle.model.specs.Space.{floatSpace, wordSpace, pathSpace}
 use Rattle.model.specs.Machine.{Call, Space}
 use Rattle.work.specs.declared.Plan.{Plan}
 use Rattle.work.specs.declared.Run.{Run}
-use Rattle.work.specs.Record.{newRun, noRun}
+use Rattle.work.specs.Record.{noRun}
 use Rattle.image.specs.Calls.{Buffers, buffers, unless10, countsFault, standSound, markSound, wordsSound, heldFault, gone, fault, runAfter, buffersAfter}
+use Rattle.image.specs.Parts.{within, fieldOf, normsOf, gradientsOf}
+use Rattle.image.specs.Points.{pointsOf}
 use Rattle.image.specs.Shown.{lengthsOf}
 
 -- ---- what a call leaves
@@ -34,8 +40,17 @@ module _ (c : Call) (r : Run) (b : Buffers) where
 
 -- Every call on no run is refused.
 pub none-refused : (c : Call) (b : Buffers) → fault c noRun b ≡ 10
-unfolding fault heldFault noRun newRun
+unfolding fault heldFault noRun
 none-refused c b = refl
+
+-- It shows nothing, whatever it is lent.
+pub none-shown : (floats path : List Float) → (fieldOf noRun floats ≡ []) × (normsOf noRun floats ≡ []) × (gradientsOf noRun floats ≡ []) × (pointsOf noRun path ≡ [])
+unfolding fieldOf normsOf gradientsOf pointsOf within noRun part
+none-shown floats path = (either (leb 0 (length floats)), either (leb 0 (length floats)), either (leb 0 (length floats)), either (leb 0 (length path)))
+  where
+    either : (t : Bool) → pick {A = List Float} t [] [] ≡ []
+    either true = refl
+    either false = refl
 
 -- ---- tests
 

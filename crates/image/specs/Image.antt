@@ -1,4 +1,4 @@
--- The record and the buffers that the uninterrupted run of a content has at a place, with a mark, a pass count and what was lent beyond the places used. Definitions only. Assumes nothing.
+-- The record and the buffers that the uninterrupted run of a task has at a place, with a mark, a pass count and what was lent beyond the places used. Definitions only. Assumes nothing.
 use Prim.Native.Nat.{ℕ, _+_, _-_, _*_}
 use mathlib.Core.List.{List, [], _∷_, _++_}
 use mathlib.Core.Option.{Option, none, some}

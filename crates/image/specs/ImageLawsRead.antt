@@ -1,4 +1,4 @@
--- What is read from an image: the mesh, the matrix and the right side are the content's, and the vectors and gradients the state's.
+-- What is read from an image: the mesh, the matrix and the right side are the task's, and the vectors and gradients the state's.
 -- Assumes nothing.
 use Prim.Native.Nat.{ℕ, _+_, _*_, _≤_}
 use mathlib.Core.Path.{_≡_, refl, sym, ap, _∙_}

@@ -82,7 +82,7 @@ pub record Fits (h : Header) (floats words : ℕ) : Type 0 where
   pub floats-fit : 5 * h .n + 9 * h .t ≤ floats
   pub words-fit : 5 * h .n + 18 * h .t + 1 ≤ words
 
--- the content's lists at the front of each buffer
+-- the task's lists at the front of each buffer
 abbrev pub meshFloats : Task → List Float → List Float
 meshFloats c floats = splice floats 0 (c .vertices)
 
@@ -152,7 +152,7 @@ pub record Suffices (sheet : List ℕ) (h : Header) (plan : Plan) (b : Buffers) 
   pub plan-is : plan ≡ planBy h
   pub space : Enough (needs (task (contentOf sheet))) (lengthsOf b)
 
--- the run of a content at place 0
+-- the run of a task at place 0
 pub record Stands (c : Task) (b : Buffers) (run : Run) (b′ : Buffers) : Type 0 where
   pub run-is : run ≡ runOf c fresh
   pub held : b′ ≡ image c fresh (restOf c b)

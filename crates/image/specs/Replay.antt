@@ -43,8 +43,8 @@ pub record Opens (sheet : List ℕ) (b : Buffers) (a : Answer) (b′ : Buffers) 
 
 -- ---- a list of calls as numbers, six for each: kind, k, a number that no call takes yet, and how many floats, words and places of the path are lent
 
-abbrev pub callWords : ℕ
-callWords = 6
+abbrev pub callNumbers : ℕ
+callNumbers = 6
 
 -- kind 0 is advance, 1 back, 2 mark, any other return; mark and return take no k
 abbrev pub callOf : ℕ → ℕ → Call
@@ -55,8 +55,8 @@ callOf (suc (suc (suc j))) k = return
 
 abbrev pub lentAt : List ℕ → ℕ → Lent
 lentAt l i = record {
-  call = callOf (getD l (callWords * i) 0) (getD l (callWords * i + 1) 0);
-  space = record { floats = getD l (callWords * i + 3) 0; words = getD l (callWords * i + 4) 0; path = getD l (callWords * i + 5) 0 };
+  call = callOf (getD l (callNumbers * i) 0) (getD l (callNumbers * i + 1) 0);
+  space = record { floats = getD l (callNumbers * i + 3) 0; words = getD l (callNumbers * i + 4) 0; path = getD l (callNumbers * i + 5) 0 };
 }
 
 -- the first i calls
@@ -72,7 +72,7 @@ pub record Turned (l : Lent) (run : Run) (b : Buffers) (a : Answer) (b′ : Buff
 
 -- as many as there are whole ones, and places for their refusals
 abbrev pub callCount : List ℕ → List ℕ → ℕ
-callCount l said = min (length said) (length l / callWords)
+callCount l said = min (length said) (length l / callNumbers)
 
 -- the first i calls, from a record and the buffers
 unfoldable pub replayed : List ℕ → ℕ → Run → Buffers → Held

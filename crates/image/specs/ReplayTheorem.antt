@@ -12,6 +12,7 @@ use Rattle.binary64.specs.Number.{pick}
 use Rattle.pde.specs.Path.{pointFloats}
 use Rattle.format.specs.Content.{Content}
 use Rattle.format.specs.Sheet.{Parsed, accepted, refused, parse}
+use Rattle.format.specs.SheetLaws.{refuses}
 use Rattle.model.specs.Task.{Task, task}
 use Rattle.model.specs.Run.{lastPlace}
 use Rattle.model.specs.Sized.{Sized}
@@ -76,6 +77,11 @@ pub opened-run : (sheet : List ℕ) (b : Buffers) (c : Content) → parse sheet 
     → opened sheet b ≡ opening 0 (runOf (task c) fresh) (image (task c) fresh (restOf (task c) b))
 unfolding opened
 opened-run sheet b c e z = rw (e, z)
+
+-- no sheet that is refused is opened
+pub refused-unopened : (sheet : List ℕ) (b : Buffers) (k : ℕ) → parse sheet ≡ refused k → opened sheet b .answer .refused ≡ 0 → ⊥
+unfolding opened
+refused-unopened sheet b k e z = refuses sheet k e (sym (ap (λ (p : Parsed). openedBy p b .answer .refused) e) ∙ z)
 
 -- the space suffices where an accepted sheet is opened
 pub open-space : (sheet : List ℕ) (b : Buffers) (c : Content) → parse sheet ≡ accepted c → opened sheet b .answer .refused ≡ 0 → short (needs (task c)) (lengthsOf b) ≡ 0

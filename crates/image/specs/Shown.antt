@@ -1,4 +1,4 @@
--- What document 01 compares after a list of calls (Counter machine), as one statement on a content, the machine's state, a record and the three buffers. Definitions only. Assumes nothing.
+-- What document 01 compares after a list of calls (Counter machine), as one statement on a task, the machine's state, a record and the three buffers. Definitions only. Assumes nothing.
 use Prim.Native.Nat.{ℕ, _+_, _-_, _*_, _≤_, _<_}
 use mathlib.Core.Path.{_≡_}
 use mathlib.Core.Bool.{false}

@@ -12,7 +12,6 @@ use Rattle.binary64.specs.Number.{pick}
 use Rattle.format.specs.Bytes.{Bytes}
 use Rattle.format.specs.Content.{Content}
 use Rattle.format.specs.Sheet.{Parsed, accepted, refused, parse}
-use Rattle.format.specs.SheetLaws.{refuses}
 use Rattle.format.specs.Theorems.{parse-sound}
 use Rattle.model.specs.Task.{Task, task}
 use Rattle.model.specs.Sized.{Sized}
@@ -30,7 +29,7 @@ use Rattle.image.specs.Lists.{Held, front, behind, performed, performs}
 use Rattle.image.specs.ListTheorem.{counted}
 use Rattle.image.specs.Image.{runOf, image, restOf}
 use Rattle.image.specs.Replay.{Opening, opening, openedBy, opened, Opens}
-use Rattle.image.specs.ReplayTheorem.{as-long, opened-run, open-space}
+use Rattle.image.specs.ReplayTheorem.{as-long, opened-run, refused-unopened, open-space}
 use Rattle.image.specs.Shown.{lengthsOf, machine, Shown, HandedOut}
 use Rattle.image.specs.Theorem.{begun, lists-of-calls-image, as-opened, lists-from-sheet, handed-from-sheet}
 use Rattle.text.specs.Put.{Printed}
@@ -165,20 +164,15 @@ module _ (b : Buffers) (long : lengthsOf b ≡ places) where
       go false f = absurd (f refl)
 
   module _ (sheet : List ℕ) (bytes : Bytes sheet) (o : opened sheet b .answer .refused ≡ 0) where
-    -- no sheet that is refused is opened
-    never-open : (j : ℕ) → parse sheet ≡ refused j → ⊥
-    unfolding opened
-    never-open j q = refuses sheet j q (sym (ap (λ (p : Parsed). openedBy p b .answer .refused) q) ∙ o)
-
     -- the run is open
     open-text : (p : Parsed) → parse sheet ≡ p → lastText (opened sheet b .answer .run) (opened sheet b .all) ≡ parsedText p
-    open-text (refused j) q = absurd (never-open j q)
+    open-text (refused j) q = absurd (refused-unopened sheet b j q o)
     open-text (accepted c) q =
         let s : short (needs (task c)) (lengthsOf b) ≡ 0 = open-space sheet b c q o in
         rw (← (same-text (task c)), s) (last-state sheet bytes b c q o)
 
     open-held : (p : Parsed) → parse sheet ≡ p → buffersAfter far (opened sheet b .answer .run) (opened sheet b .all) ≡ parsedBuffers p b
-    open-held (refused j) q = absurd (never-open j q)
+    open-held (refused j) q = absurd (refused-unopened sheet b j q o)
     open-held (accepted c) q =
         let s : short (needs (task c)) (lengthsOf b) ≡ 0 = open-space sheet b c q o in
         rw s (last-held sheet bytes b c q o)

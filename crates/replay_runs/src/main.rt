@@ -66,10 +66,10 @@ fn next(input: &[u8]) -> usize
     let from = bytes + 4;
     let count = size(sheet::items::corner(&input[from..], 0));
     let calls = bytes + 8;
-    if (input.len() - calls) / 20 < count {
+    if (input.len() - calls) / 24 < count {
         return 0;
     }
-    let end = calls + 20 * count;
+    let end = calls + 24 * count;
     replay_one(&input[4..from], &input[calls..end], count);
     end
 }

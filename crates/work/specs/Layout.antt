@@ -1,6 +1,6 @@
 -- Where each list of a run stands in the lent buffers, for n vertices and T triangles: one order for each buffer. Definitions only. Assumes nothing.
 -- Floats: vertices 2n, right side n, row buffer n, values 9T + n, x n, r n, p n, product n, gradients 2T, which a pass works on; norms limit + 1; kept x r p 3n; spare.
--- Words: triangles 3T, neighbours 3T, tags n, row starts n + 1, columns 9T + n, heads n, links 3T, row columns n, spare. Path: points 2 room.
+-- Words: triangles 3T, neighbours 3T, tags n, row starts n + 1, columns 9T + n, heads n, links 3T, row columns n, spare. Path: the coordinates of room points.
 use Prim.Native.Nat.{ℕ, _+_, _*_}
 use Rattle.sparse.specs.declared.Csr.{Csr}
 use Rattle.mesh.specs.declared.Mesh.{Mesh}

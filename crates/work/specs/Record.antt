@@ -18,7 +18,11 @@ firstEnd limit = pick (eqb limit 0) 3 0
 unfoldable pub newRun : Plan → Float → Run
 newRun plan rs = record { plan = plan; stand = pathless 0 rs 1 (firstEnd (plan .limit)); mark = Mark.Nothing; passes = 0 }
 
--- no run: it has no room, so every call on it is refused with 10
+-- no run: it has no room, so every call on it is refused with 10, and shows nothing
 unfoldable pub noRun : Run
-unfolding newRun
-noRun = newRun (record { n = 0; t = 0; limit = 0; room = 0; tolerance = plusZero; step = plusZero; start = Given.Nothing }) plusZero
+noRun = record {
+  plan = record { n = 0; t = 0; limit = 0; room = 0; tolerance = plusZero; step = plusZero; start = Given.Nothing };
+  stand = pathless 0 plusZero 0 0;
+  mark = Mark.Nothing;
+  passes = 0;
+}

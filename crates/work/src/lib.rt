@@ -117,6 +117,12 @@ impl Run {
             step: 0.0,
             start: Given::Nothing,
         };
-        Run::new(plan, 0.0)
+        let stand = place::pathless(0, 0.0, 0, 0);
+        Run {
+            plan,
+            stand,
+            mark: Mark::Nothing,
+            passes: 0,
+        }
     }
 }
