@@ -2,16 +2,18 @@
 
 use crate::cases::{kind, same, Cases, Tally, Verdict};
 use crate::content::{Content, Settings, FACTOR, MAX_LIMIT, MAX_ROOM, MAX_TRIANGLES, MAX_VERTICES};
-use crate::floats::{any, canon, special};
+use crate::floats::{any, special, PATTERN};
 use crate::machine::{any_call, any_lent, needs, space, Call, Machine};
 use crate::meshes::{changed, fan, few, grid, heap, ring, Make};
-use crate::opened::{behind, refuses, same_buffers, Opened};
+use crate::opened::{alike_buffers, behind, lengths, lent, refuses, same_all, same_buffers, same_length, Opened};
 use crate::paths::tracing;
 use crate::rattle_run as rattle;
-use crate::rattle_run::Record;
+use crate::rattle_run::{Buffers, Part, Record, PARTS, REALS, SAID, WHOLES, WHOLE_RECORD};
 use crate::rng::Rng;
+use crate::stand_ins::Point;
 use crate::trial::Sort;
-use crate::uninterrupted::{Run, Trace};
+use crate::uninterrupted::{length, Run, Trace};
+use crate::writer::bytes;
 
 pub fn lists() -> Cases {
     Cases {
@@ -40,12 +42,18 @@ pub fn altered() -> Cases {
             kind("records and buffers altered anyhow, on rings", 500, |rng, _, tally| each(rng, tally, 4, ring, anyhow)),
             kind("records and buffers altered anyhow, on heaps", 500, |rng, _, tally| each(rng, tally, 4, heap, anyhow)),
             kind("one index or count out of its range", 300, |rng, _, tally| each(rng, tally, 4, ring, out_of_range)),
+            kind("flags of every kind of value in every state, on rings", 100, |rng, _, tally| each(rng, tally, 1, ring, flags)),
+            kind("flags of every kind of value in every state, on heaps", 100, |rng, _, tally| each(rng, tally, 1, heap, flags)),
+            kind("lists too short for a record", 100, |rng, _, tally| each(rng, tally, 1, ring, short_lists)),
             kind("advances near the most passes, on rings", 300, |rng, _, tally| each(rng, tally, 4, ring, near_the_most)),
             kind("advances near the most passes, on heaps", 300, |rng, _, tally| each(rng, tally, 4, heap, near_the_most)),
         ],
         sorts: &[
             Sort { what: "calls", classes: &["advance", "back", "mark", "return"] },
             Sort { what: "refusals", classes: &["none", "8", "9", "10"] },
+            Sort { what: "flags altered at places", classes: &["0", "solving", "crossing", "the last"] },
+            Sort { what: "flags altered with", classes: &["no mark", "a mark"] },
+            Sort { what: "flags that are", classes: &["0", "1", "neither"] },
         ],
     }
 }
@@ -102,8 +110,9 @@ fn listed(rng: &mut Rng, content: &Content, passes: u64, tally: &mut Tally) -> V
         tally.counts.note(3, kind_of_place(&trace, &machine));
         same("passes", machine.passes, opened.record.wholes[rattle::PASSES])?;
         opened.shows(&run, trace.at(machine.place)).map_err(|why| format!("after call {i}, {call:?}: {why}"))?;
+        opened.has_length(trace.at(machine.place), lent).map_err(|why| format!("after call {i}, {call:?}: {why}"))?;
     }
-    opened.has_length(trace.at(machine.place))?;
+    opened.has_length(trace.at(machine.place), opened.lengths())?;
     opened.has_matrix(&run)
 }
 
@@ -162,12 +171,13 @@ fn alter(rng: &mut Rng, opened: &mut Opened) {
             let i = rng.below(rattle::WHOLES as u64) as usize;
             let old = opened.record.wholes[i];
             let wild = rng.next();
-            opened.record.wholes[i] = rng.pick(&[0, 1, 2, 3, old + 1, old.saturating_sub(1), old / 2, 50, 1 << 20, wild & 0xffff_ffff]);
-            keep_flags(&mut opened.record);
+            let others = [0, 1, 2, 3, old.wrapping_add(1), old.saturating_sub(1), old / 2, 50, 1 << 20, wild & 0xffff_ffff];
+            let flag = i == rattle::GIVEN || i == rattle::MARKED;
+            opened.record.wholes[i] = if flag && !rng.one_in(8) { rng.below(2) } else { rng.pick(&others) };
         }
         2 => {
             let i = rng.below(rattle::REALS as u64) as usize;
-            opened.record.reals[i] = canon(if rng.one_in(2) { special(rng) } else { any(rng) });
+            opened.record.reals[i] = if rng.one_in(2) { special(rng) } else { any(rng) }.to_bits();
         }
         3 => {
             let i = rng.below(b.words.len() as u64) as usize;
@@ -185,38 +195,96 @@ fn alter(rng: &mut Rng, opened: &mut Opened) {
     }
 }
 
-/// A presence is 0 or 1: what the record itself can hold.
-fn keep_flags(record: &mut Record) {
-    record.wholes[rattle::GIVEN] %= 2;
-    record.wholes[rattle::MARKED] %= 2;
+/// What refuses a call on any record before its other numbers are looked at: 10 for n, T, limit or room, then 8; and 10 for a flag that is neither 0 nor 1.
+fn foreseen(record: &Record, lent: [usize; 3]) -> Option<u32> {
+    let Some(needs) = needs_of(record) else {
+        return Some(10);
+    };
+    if lent.iter().zip(needs).any(|(lent, need)| *lent < need) {
+        return Some(8);
+    }
+    [rattle::GIVEN, rattle::MARKED].iter().any(|flag| record.wholes[*flag] > 1).then_some(10)
 }
 
-/// What a call on any record owes: 10 for n, T, limit or room, then 8; no change where it refuses; what is lent past the space stays.
+/// The space that a record's n, T, limit and room ask for, where they are in their ranges.
+fn needs_of(record: &Record) -> Option<[usize; 3]> {
+    let [n, t, limit, room] = [rattle::N, rattle::T, rattle::LIMIT, rattle::ROOM].map(|i| record.wholes[i]);
+    let counts = n <= MAX_VERTICES as u64 && t <= MAX_TRIANGLES as u64 && limit <= MAX_LIMIT && (1..=MAX_ROOM).contains(&room);
+    counts.then(|| space(n as usize, t as usize, limit as usize, room as usize))
+}
+
+/// What a call on any record owes: the refusal that is foreseen, else no 8, and 9 only for a return with no mark; no change where it refuses; what is lent
+/// past the space stays. Before it, what the record shows, and the length.
 fn returns(opened: &mut Opened, call: Call, lent: [usize; 3], tally: &mut Tally) -> Result<u32, String> {
     let record = opened.record.clone();
     let before = opened.buffers.clone();
+    shows_any(&record, &before, lent)?;
+    measures(&record, &before, lent)?;
     let said = rattle::call(&mut opened.record, call, &mut opened.buffers, lent);
     if ![0, 8, 9, 10].contains(&said) {
         return Err(format!("{call:?} gives {said}"));
     }
     note(tally, call, said);
-    let [n, t, limit, room] = [rattle::N, rattle::T, rattle::LIMIT, rattle::ROOM].map(|i| record.wholes[i]);
-    let counts = n <= MAX_VERTICES as u64 && t <= MAX_TRIANGLES as u64 && limit <= MAX_LIMIT && (1..=MAX_ROOM).contains(&room);
-    if !counts {
-        same("refusal of the record's counts", 10, said)?;
-    } else {
-        let needs = space(n as usize, t as usize, limit as usize, room as usize);
-        let short = lent.iter().zip(needs).any(|(lent, need)| *lent < need);
-        same("whether space is short", short, said == 8)?;
-        if said == 0 {
-            same_buffers(&behind(&before, needs), &behind(&opened.buffers, needs))?;
+    match foreseen(&record, lent) {
+        Some(k) => same("refusal", k, said)?,
+        None => {
+            same("whether space is short", false, said == 8)?;
+            let markless = call == Call::Return && record.wholes[rattle::MARKED] == 0;
+            same("whether there is a return with no mark", markless, said == 9 || (markless && said == 10))?;
         }
     }
     if said != 0 {
-        same("the record after a refusal", &record, &opened.record)?;
-        same_buffers(&before, &opened.buffers)?;
+        same_all((&record, &before), (&opened.record, &opened.buffers))?;
+    } else if let Some(needs) = needs_of(&record) {
+        same_buffers(&behind(&before, needs), &behind(&opened.buffers, needs))?;
     }
     Ok(said)
+}
+
+/// The length on any record: refused as a mark is, which has no refusal of its own, else that of the record's points.
+fn measures(record: &Record, b: &Buffers, lent: [usize; 3]) -> Verdict {
+    let (mut marked, mut with) = (record.clone(), b.clone());
+    let expected = match rattle::call(&mut marked, Call::Mark, &mut with, lent) {
+        0 => {
+            let count = usize::try_from(record.wholes[rattle::POINTS]).unwrap_or(usize::MAX);
+            let points = b.path.get(..count.saturating_mul(2)).ok_or("a mark takes more points than the path has")?;
+            Ok(length(&points.chunks_exact(2).map(|p| Point::new(p[0], p[1])).collect::<Vec<_>>()))
+        }
+        k => Err(k),
+    };
+    let before = (record.clone(), b.clone());
+    same_length(record, b, lent, expected)?;
+    same_all((&before.0, &before.1), (record, b))
+}
+
+/// The numbers that are said of any record, and where its parts stand.
+fn shows_any(record: &Record, b: &Buffers, lent: [usize; 3]) -> Verdict {
+    same("place, passes and ends that are said", SAID.map(|i| record.wholes[i]), rattle::said_of(record, WHOLES))?;
+    for part in PARTS {
+        let mut out = [PATTERN; 3];
+        same("refusal of a part", 0, rattle::part(part, record, WHOLE_RECORD, b, lent, &mut out))?;
+        let [from, count] = stands(part, record, part.buffer(b, lent).len());
+        same(&format!("{part:?}, start and count"), [from, count, PATTERN], out)?;
+    }
+    Ok(())
+}
+
+/// Where a part of any record starts in a buffer of so many places, and how many numbers it has: 0 and 0 where it has none, n or T is too large, or it would
+/// reach past the end.
+fn stands(part: Part, record: &Record, places: usize) -> [u64; 2] {
+    let [n, t, norms, points] = [rattle::N, rattle::T, rattle::NORMS, rattle::POINTS].map(|i| record.wholes[i]);
+    let counted = n <= MAX_VERTICES as u64 && t <= MAX_TRIANGLES as u64;
+    let (from, count) = match part {
+        Part::Points => (0, 2 * points as u128),
+        _ if !counted => return [0, 0],
+        Part::Field => (rattle::layout(n as usize, t as usize).field, n as u128),
+        Part::Norms => (rattle::layout(n as usize, t as usize).norms, norms as u128),
+        Part::Gradients => (rattle::layout(n as usize, t as usize).gradients, 2 * t as u128),
+    };
+    if count == 0 || from as u128 + count > places as u128 {
+        return [0, 0];
+    }
+    [from as u64, count as u64]
 }
 
 /// An advance on altered work whose gain is known from one with no passes counted: where the count just holds it, the same comes of it, and where it
@@ -242,8 +310,12 @@ fn near_the_most(rng: &mut Rng, content: &Content, tally: &mut Tally) {
             let said = opened.call(call);
             note(tally, call, said);
             same("refusal", 10 * over as u32, said)?;
-            same("the record", &expected.0, &opened.record)?;
-            same_buffers(&expected.1, &opened.buffers)?;
+            if over == 0 {
+                same("the record", expected.0.canon(), opened.record.canon())?;
+                alike_buffers(&expected.1, &opened.buffers)?;
+            } else {
+                same_all((&expected.0, &expected.1), (&opened.record, &opened.buffers))?;
+            }
         }
         Ok(())
     });
@@ -265,8 +337,8 @@ fn out_of_range(rng: &mut Rng, content: &Content, tally: &mut Tally) {
             let said = opened.call(call);
             let verdict = same("refusal", 10, said).and_then(|()| {
                 note(tally, call, said);
-                same("the record after a refusal", &record, &opened.record)?;
-                same_buffers(&buffers, &opened.buffers)
+                same_all((&record, &buffers), (&opened.record, &opened.buffers))?;
+                same_length(&record, &buffers, opened.lengths(), Err(10))
             });
             tally.note(verdict);
         }
@@ -318,4 +390,154 @@ fn spoil_record(rng: &mut Rng, content: &Content, record: &mut Record) -> bool {
     };
     record.wholes[what] = most + excess(rng);
     true
+}
+
+// ---- flags
+
+/// What a flag may be altered to.
+const FLAGS: [u64; 7] = [0, 1, 2, 255, 1 << 32, 1 << 63, u64::MAX];
+
+/// Every call on a run at each kind of place, with and without a mark, with one flag altered.
+fn flags(rng: &mut Rng, content: &Content, tally: &mut Tally) {
+    let states = match states(rng, content) {
+        Ok(states) => states,
+        Err(why) => return tally.note(Err(why)),
+    };
+    for state in states {
+        for flag in [rattle::GIVEN, rattle::MARKED] {
+            for value in FLAGS {
+                let verdict = flagged(rng, content, &state, flag, value, tally);
+                tally.note(verdict);
+            }
+        }
+    }
+}
+
+/// Record, buffers, and the kind of its place.
+type State = (Record, Buffers, usize);
+
+/// A run at place 0, within solving, at the start pass, within crossing and at its last place, with no mark and with one.
+fn states(rng: &mut Rng, content: &Content) -> Result<Vec<State>, String> {
+    let run = Run::new(content);
+    let trace = Trace::new(&run);
+    let last = trace.last();
+    let solved = (0..=last).find(|p| trace.at(*p).field_end != 0).unwrap_or(last);
+    let mut all = Vec::new();
+    for marked in [false, true] {
+        let mark = rng.below(last as u64 + 1) as usize;
+        for place in [0, rng.below(solved as u64 + 1) as usize, solved, solved + 1, (solved + last) / 2, last] {
+            let mut opened = Opened::new(rng, content)?;
+            let calls = [Call::Advance(mark as u32), Call::Mark, Call::Back(u32::MAX), Call::Advance(place as u32)];
+            for call in &calls[if marked { 0 } else { 3 }..] {
+                same("refusal", 0, opened.call(*call))?;
+            }
+            let kind = match place {
+                0 => 0,
+                p if p >= last => 3,
+                p => 1 + (trace.at(p).field_end != 0) as usize,
+            };
+            all.push((opened.record, opened.buffers, kind));
+        }
+    }
+    Ok(all)
+}
+
+/// A flag of that value, and every call, lent enough or too little, with counts in their ranges or not: only a flag that is 0 or 1 lets one get further.
+fn flagged(rng: &mut Rng, content: &Content, state: &State, flag: usize, value: u64, tally: &mut Tally) -> Verdict {
+    let marked = state.0.wholes[rattle::MARKED] as usize;
+    tally.counts.note(2, state.2);
+    tally.counts.note(3, marked);
+    tally.counts.note(4, value.min(2) as usize);
+    let mut record = state.0.clone();
+    record.wholes[flag] = value;
+    // the numbers of a start or a mark that was not there have any bits
+    if state.0.wholes[flag] == 0 {
+        let reals = if flag == rattle::GIVEN { 2..4 } else { 7..8 };
+        reals.for_each(|i| record.reals[i] = any(rng).to_bits());
+    }
+    if state.0.wholes[flag] == 0 && flag == rattle::MARKED {
+        record.wholes[rattle::MARK_PLACE] = rng.below(3);
+        record.wholes[rattle::MARK_NORMS] = rng.pick(&[0, 1, 1, 1, u64::MAX]);
+    }
+    let all = lengths(&state.1);
+    for call in [Call::Advance(1), Call::Advance(u32::MAX), Call::Back(1), Call::Mark, Call::Return] {
+        let mut opened = Opened::of(content, record.clone(), state.1.clone());
+        let said = returns(&mut opened, call, all, tally).map_err(|why| format!("flag {flag} is {value:x}, {call:?}: {why}"))?;
+        if value == state.0.wholes[flag] {
+            same("refusal with no flag altered", if call == Call::Return && marked == 0 { 9 } else { 0 }, said)?;
+        }
+        let mut short = all;
+        let i = rng.below(3) as usize;
+        short[i] = rng.below(needs(content)[i] as u64) as usize;
+        opened = Opened::of(content, record.clone(), state.1.clone());
+        same("refusal of too little", Ok(8), returns(&mut opened, call, short, tally))?;
+        opened.record.wholes[rng.pick(&[rattle::N, rattle::T, rattle::LIMIT, rattle::ROOM])] = rng.pick(&[MAX_ROOM + 1, 1 << 32, u64::MAX]);
+        same("refusal of a count", Ok(10), returns(&mut opened, call, short, tally))?;
+    }
+    Ok(())
+}
+
+// ---- lists too short for a record
+
+/// Every call, the length, every part and opening, with lists of 0 to 16 whole numbers or 0 to 7 reals or both: 8 before anything else, in opening after
+/// the sheet's own refusal, and nothing is written.
+fn short_lists(rng: &mut Rng, content: &Content, tally: &mut Tally) {
+    let mut opened = match somewhere(rng, content) {
+        Ok(opened) => opened,
+        Err(why) => return tally.note(Err(why)),
+    };
+    for _ in 0..rng.below(3) {
+        alter(rng, &mut opened);
+    }
+    if rng.one_in(2) {
+        opened.record.wholes[rng.pick(&[rattle::N, rattle::PLACE, rattle::GIVEN, rattle::MARKED])] = u64::MAX;
+    }
+    let wholes = (0..WHOLES).map(|k| [k, REALS]);
+    let reals = (0..REALS).map(|k| [WHOLES, k]);
+    let both = (0..8).map(|_| [rng.below(WHOLES as u64) as usize, rng.below(REALS as u64) as usize]).collect::<Vec<_>>();
+    for places in wholes.chain(reals).chain(both) {
+        let lent = any_lent(rng, opened.lengths(), needs(content));
+        let verdict = short_list(&mut opened, places, lent, tally).and_then(|()| opens_short(rng, content, places));
+        tally.note(verdict.map_err(|why| format!("lists of {places:?}: {why}")));
+    }
+}
+
+fn short_list(opened: &mut Opened, places: [usize; 2], lent: [usize; 3], tally: &mut Tally) -> Verdict {
+    let before = (opened.record.clone(), opened.buffers.clone());
+    for call in [Call::Advance(1), Call::Back(1), Call::Mark, Call::Return] {
+        let said = rattle::call_on(&mut opened.record, places, call, &mut opened.buffers, lent);
+        same("refusal", 8, said)?;
+        note(tally, call, said);
+        same_all((&before.0, &before.1), (&opened.record, &opened.buffers))?;
+    }
+    let mut length = [f64::from_bits(PATTERN)];
+    same("refusal of the length", 8, rattle::length(&opened.record, places, &opened.buffers, lent, &mut length))?;
+    same("the length's list", PATTERN, length[0].to_bits())?;
+    for part in PARTS {
+        let mut out = [PATTERN; 2];
+        same("refusal of a part", 8, rattle::part(part, &opened.record, places, &opened.buffers, lent, &mut out))?;
+        same(
+            "refusal of a part with one place",
+            8,
+            rattle::part(part, &opened.record, WHOLE_RECORD, &opened.buffers, lent, &mut out[..1]),
+        )?;
+        same("refusal of a part with no place", 8, rattle::part(part, &opened.record, WHOLE_RECORD, &opened.buffers, lent, &mut []))?;
+        same("the part's list", [PATTERN; 2], out)?;
+    }
+    let read = SAID.map(|i| if i < places[0] { opened.record.wholes[i] } else { 0 });
+    same("place, passes and ends of a short list", read, rattle::said_of(&opened.record, places[0]))?;
+    same_all((&before.0, &before.1), (&opened.record, &opened.buffers))
+}
+
+fn opens_short(rng: &mut Rng, content: &Content, places: [usize; 2]) -> Verdict {
+    let sheet = bytes(content);
+    let buffers = lent(rng, content);
+    let lent = any_lent(rng, lengths(&buffers), needs(content));
+    let cut = rng.below(sheet.len() as u64) as usize;
+    for (front, refused) in [(sheet.len(), 8), (cut, crate::reader::read(&sheet[..cut]).err().unwrap())] {
+        let (mut record, mut after) = (Record::blank(), buffers.clone());
+        same("refusal of opening", refused, rattle::open_on(&mut record, places, &sheet[..front], &mut after, lent))?;
+        same_all((&Record::blank(), &buffers), (&record, &after))?;
+    }
+    Ok(())
 }

@@ -132,3 +132,12 @@ pub fn same_floats(what: &str, ours: &[f64], theirs: &[f64]) -> Verdict {
         Some(i) => same(&format!("{what}, at {i}"), canon(ours[i]), canon(theirs[i])),
     }
 }
+
+/// The two sides have the same numbers, bit for bit, NaNs too.
+pub fn same_bits(what: &str, ours: &[f64], theirs: &[f64]) -> Verdict {
+    same(&format!("how many {what}"), ours.len(), theirs.len())?;
+    match ours.iter().zip(theirs).position(|(a, b)| a.to_bits() != b.to_bits()) {
+        None => Ok(()),
+        Some(i) => same(&format!("{what}, at {i}"), ours[i].to_bits(), theirs[i].to_bits()),
+    }
+}

@@ -4,6 +4,9 @@ use crate::rng::Rng;
 
 pub const NAN: u64 = 0x7ff8_0000_0000_0000;
 
+/// What stands in lists before a call that may leave places of them: as a real, a NaN with a payload.
+pub const PATTERN: u64 = 0x7ff4_0bad_5eed_0b57;
+
 /// 2^52: the weight of the exponent's field in a pattern, and of the digit before the 52 of a significand.
 pub const LEADING: u64 = 1 << 52;
 

@@ -34,6 +34,8 @@ mod shapes;
 #[cfg(sheet)]
 mod sheets;
 #[cfg(run)]
+mod space;
+#[cfg(run)]
 mod stacks;
 mod stand_ins;
 mod timing;
@@ -77,7 +79,12 @@ fn subjects() -> Vec<Box<dyn Compared>> {
     all.extend([Box::new(sheets::reading()) as Box<dyn Compared>, Box::new(sheets::writing())]);
     all.extend([Box::new(fields::fields()) as Box<dyn Compared>, Box::new(paths::paths()), Box::new(whole::whole())]);
     #[cfg(run)]
-    all.extend([Box::new(calls::lists()) as Box<dyn Compared>, Box::new(calls::altered()), Box::new(stacks::stacks())]);
+    all.extend([
+        Box::new(calls::lists()) as Box<dyn Compared>,
+        Box::new(calls::altered()),
+        Box::new(space::needed()),
+        Box::new(stacks::stacks()),
+    ]);
     all
 }
 

@@ -1,11 +1,11 @@
 //! A run of the library on buffers of its own, and what it shows, against the uninterrupted run and the counter machine.
 
-use crate::cases::{same, same_floats, same_lists, Verdict};
+use crate::cases::{same, same_bits, same_floats, same_lists, Verdict};
 use crate::content::Content;
-use crate::floats::canon;
+use crate::floats::{canon, PATTERN};
 use crate::machine::{needs, Call, Machine};
 use crate::rattle_run as rattle;
-use crate::rattle_run::{Buffers, Layout, Record};
+use crate::rattle_run::{Buffers, Layout, Part, Record, SAID, WHOLES, WHOLE_RECORD};
 use crate::rng::Rng;
 use crate::stand_ins::Point;
 use crate::uninterrupted::{length, Run, Shown};
@@ -27,39 +27,62 @@ pub fn behind(b: &Buffers, places: [usize; 3]) -> Buffers {
 }
 
 /// Buffers that have what a content needs and a few places more, with anything in them.
-fn lent(rng: &mut Rng, content: &Content) -> Buffers {
+pub fn lent(rng: &mut Rng, content: &Content) -> Buffers {
     let [floats, words, path] = needs(content).map(|k| k + rng.below(4) as usize);
     Buffers {
-        floats: (0..floats).map(|_| rng.next() as f64).collect(),
+        floats: (0..floats).map(|_| anything(rng)).collect(),
         words: (0..words).map(|_| rng.next() as u32).collect(),
-        path: (0..path).map(|_| rng.next() as f64).collect(),
+        path: (0..path).map(|_| anything(rng)).collect(),
     }
 }
 
-fn lengths(b: &Buffers) -> [usize; 3] {
+/// A number, or one time in eight a NaN with a payload.
+fn anything(rng: &mut Rng) -> f64 {
+    match rng.next() {
+        k if k % 8 == 0 => f64::from_bits(k | 0x7ff0_0000_0000_0001),
+        k => k as f64,
+    }
+}
+
+pub fn lengths(b: &Buffers) -> [usize; 3] {
     [b.floats.len(), b.words.len(), b.path.len()]
 }
 
+/// Bit for bit, NaNs too: what a refusal and the places past the needed space owe.
 pub fn same_buffers(ours: &Buffers, theirs: &Buffers) -> Verdict {
+    same_bits("floats", &ours.floats, &theirs.floats)?;
+    same_lists("words", &ours.words, &theirs.words)?;
+    same_bits("floats of the path", &ours.path, &theirs.path)
+}
+
+/// Where any NaN counts as any other.
+pub fn alike_buffers(ours: &Buffers, theirs: &Buffers) -> Verdict {
     same_floats("floats", &ours.floats, &theirs.floats)?;
     same_lists("words", &ours.words, &theirs.words)?;
     same_floats("floats of the path", &ours.path, &theirs.path)
+}
+
+/// Record and buffers are, bit for bit, as they were before a refusal.
+pub fn same_all(before: (&Record, &Buffers), after: (&Record, &Buffers)) -> Verdict {
+    same("the record after a refusal", before.0, after.0)?;
+    same_buffers(before.1, after.1)
 }
 
 /// Opening is refused where one buffer is too short, and by the sheet's refusal before that, and every lent place is as it was.
 pub fn refuses(rng: &mut Rng, content: &Content) -> Verdict {
     let mut sheet = bytes(content);
     let mut buffers = lent(rng, content);
-    let before = buffers.clone();
+    let before = (Record::blank(), buffers.clone());
+    let mut record = Record::blank();
     let mut short = lengths(&buffers);
     let i = rng.below(3) as usize;
     let less = rng.below(needs(content)[i] as u64) as usize;
     short[i] = rng.pick(&[needs(content)[i] - 1, less]);
-    same("opening with too little space", Some(8), rattle::open(&sheet, &mut buffers, short).err())?;
-    same_buffers(&before, &buffers)?;
+    same("opening with too little space", 8, rattle::open_on(&mut record, WHOLE_RECORD, &sheet, &mut buffers, short))?;
+    same_all((&before.0, &before.1), (&record, &buffers))?;
     sheet.push(0);
-    same("opening a sheet that is too long", Some(1), rattle::open(&sheet, &mut buffers, short).err())?;
-    same_buffers(&before, &buffers)
+    same("opening a sheet that is too long", 1, rattle::open_on(&mut record, WHOLE_RECORD, &sheet, &mut buffers, short))?;
+    same_all((&before.0, &before.1), (&record, &buffers))
 }
 
 impl Opened {
@@ -71,6 +94,13 @@ impl Opened {
         let record = rattle::open(&bytes(content), &mut buffers, all).map_err(|k| format!("opening is refused with {k}"))?;
         let layout = rattle::layout(content.n(), content.t());
         Ok(Opened { record, buffers, layout, needs, past })
+    }
+
+    /// A record and buffers that a content's run has been brought to.
+    pub fn of(content: &Content, record: Record, buffers: Buffers) -> Opened {
+        let needs = needs(content);
+        let past = behind(&buffers, needs);
+        Opened { record, buffers, layout: rattle::layout(content.n(), content.t()), needs, past }
     }
 
     pub fn lengths(&self) -> [usize; 3] {
@@ -90,8 +120,7 @@ impl Opened {
         let said = rattle::call(&mut self.record, call, &mut self.buffers, lent);
         same("refusal", expected, said)?;
         if let Some((record, buffers)) = before {
-            same("the record after a refusal", &record, &self.record)?;
-            same_buffers(&buffers, &self.buffers)?;
+            same_all((&record, &buffers), (&self.record, &self.buffers))?;
         }
         Ok(said)
     }
@@ -104,17 +133,27 @@ impl Opened {
         same("path end", at.path_end as u64, wholes[rattle::PATH_END])?;
         same("how many norms", at.norms.len() as u64, wholes[rattle::NORMS])?;
         same("how many points", at.points.len() as u64, wholes[rattle::POINTS])?;
-        let floats = |from: usize, count: usize| &self.buffers.floats[from..from + count];
-        same_floats("field", at.x, floats(self.layout.field, at.x.len()))?;
+        same("place, passes and ends that are said", SAID.map(|i| wholes[i]), rattle::said_of(&self.record, WHOLES))?;
+        same_floats("field", at.x, self.part(Part::Field, self.layout.field, at.x.len())?)?;
+        same_floats("norms handed out", at.norms, self.part(Part::Norms, self.layout.norms, at.norms.len())?)?;
         let norms = filled_up(at.norms.to_vec(), run.content.settings.limit() + 1);
-        same_floats("norms", &norms, floats(self.layout.norms, norms.len()))?;
-        same_floats("gradients", &numbers(at.gradients), floats(self.layout.gradients, 2 * at.gradients.len()))?;
-        let path = filled_up(numbers(at.points), 2 * run.room);
+        same_floats("norms", &norms, &self.buffers.floats[self.layout.norms..][..norms.len()])?;
+        let gradients = numbers(at.gradients);
+        same_floats("gradients", &gradients, self.part(Part::Gradients, self.layout.gradients, gradients.len())?)?;
+        let points = numbers(at.points);
+        same_floats("points handed out", &points, self.part(Part::Points, 0, points.len())?)?;
+        let path = filled_up(points, 2 * run.room);
         same_floats("path", &path, &self.buffers.path[..path.len()])?;
-        same_floats("points handed back", &numbers(at.points), &rattle::points(&self.record, &self.buffers.path))?;
-        let counts = [at.x.len(), at.norms.len(), 2 * at.gradients.len()];
-        same_lists("how many numbers are handed out", &counts, &rattle::parts(&self.record, &self.buffers.floats))?;
         same_buffers(&self.past, &behind(&self.buffers, self.needs))
+    }
+
+    /// A part that the library hands out, which starts at a place and has so many numbers; one that has none starts at 0.
+    fn part(&self, part: Part, from: usize, count: usize) -> Result<&[f64], String> {
+        let mut out = [PATTERN; 3];
+        same("refusal of a part", 0, rattle::part(part, &self.record, WHOLE_RECORD, &self.buffers, self.lengths(), &mut out))?;
+        let from = if count == 0 { 0 } else { from };
+        same(&format!("{part:?}, start and count"), [from as u64, count as u64, PATTERN], out)?;
+        Ok(&part.buffer(&self.buffers, self.lengths())[from..from + count])
     }
 
     /// The matrix in the work is the run's.
@@ -131,10 +170,32 @@ impl Opened {
         same("end of the rows", k as u32, starts[run.rows.len()])
     }
 
-    /// The length of the path that is there.
-    pub fn has_length(&self, at: Shown) -> Verdict {
-        same("length", canon(length(at.points)), canon(rattle::length(&self.buffers.path[..2 * at.points.len()])))
+    /// The length of the path that is there, from the fronts of the buffers: refused with 8 where one is too short, or last where there is no place for
+    /// the number. It alters nothing.
+    pub fn has_length(&self, at: Shown, lent: [usize; 3]) -> Verdict {
+        let short = lent.iter().zip(self.needs).any(|(lent, need)| *lent < need);
+        let before = (self.record.clone(), self.buffers.clone());
+        same_length(&self.record, &self.buffers, lent, if short { Err(8) } else { Ok(length(at.points)) })?;
+        same_all((&before.0, &before.1), (&self.record, &self.buffers))
     }
+}
+
+/// The length or the refusal that is expected, from lists of 0 to 2 places for the number.
+pub fn same_length(record: &Record, b: &Buffers, lent: [usize; 3], expected: Result<f64, u32>) -> Verdict {
+    for places in 0..3 {
+        let mut out = [f64::from_bits(PATTERN); 2];
+        let said = rattle::length(record, WHOLE_RECORD, b, lent, &mut out[..places]);
+        let refused = expected.err().unwrap_or(if places == 0 { 8 } else { 0 });
+        same("refusal of the length", refused, said)?;
+        let first = match expected {
+            Ok(length) if places > 0 => length,
+            _ => f64::from_bits(PATTERN),
+        };
+        same("length", canon(first), canon(out[0]))?;
+        let left = if refused == 0 { &out[1..] } else { &out[..] };
+        same("whether the rest of the length's list is left", true, left.iter().all(|x| x.to_bits() == PATTERN))?;
+    }
+    Ok(())
 }
 
 fn numbers(points: &[Point]) -> Vec<f64> {

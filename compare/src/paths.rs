@@ -227,7 +227,7 @@ pub fn as_library(rng: &mut Rng, run: &Run, field: Option<&[f64]>, last: &State)
     }
     same("refusal", 0, opened.call(Call::Advance(u32::MAX)))?;
     opened.shows(run, last.shown())?;
-    opened.has_length(last.shown())
+    opened.has_length(last.shown(), opened.lengths())
 }
 
 #[cfg(not(run))]

@@ -4,6 +4,7 @@ use crate::cases::{kind, same, same_floats, same_lists, Cases, Tally, Verdict};
 use crate::content::{Content, Settings, MAX_TRIANGLES, MAX_VERTICES};
 use crate::drafts::{beyond, content, content_of, coordinate, damaged, settings, Draft, CONTENT_FAULTS, LENGTH_FAULTS, NANS};
 use crate::rattle_sheet as rattle;
+use crate::rattle_sheet::Checked;
 use crate::reader::read;
 use crate::rng::Rng;
 use crate::trial::Sort;
@@ -38,6 +39,7 @@ pub fn reading() -> Cases {
             kind("with a NaN, an infinity or a number out of range at every place", 100, |rng, _, tally| wrong_everywhere(rng, tally)),
             kind("with any list of kinds", 400, |rng, _, tally| each(rng, tally, 50, any_kinds)),
             kind("of any bytes", 100, |rng, _, tally| each(rng, tally, 50, any_bytes)),
+            kind("with lists too short for a check", 200, |rng, _, tally| checked_short(rng, tally)),
         ],
         sorts: ANSWERS,
     }
@@ -53,6 +55,7 @@ pub fn writing() -> Cases {
             kind("of about the most vertices and triangles", 40, |rng, block, tally| {
                 each_content(rng, tally, 1, |rng| about_the_most(rng, block))
             }),
+            kind("with lists too short for settings or the length", 200, |rng, _, tally| written_short(rng, tally)),
         ],
         sorts: ANSWERS,
     }
@@ -74,6 +77,7 @@ fn judge(sheet: &[u8], tally: &mut Tally) {
 }
 
 fn reads(sheet: &[u8], ours: &Result<Content, u32>) -> Verdict {
+    checks(sheet, ours, rattle::CHECKED)?;
     let theirs = rattle::read(sheet);
     same("refusal", ours.as_ref().err(), theirs.as_ref().err())?;
     let (Ok(ours), Ok(theirs)) = (ours, theirs) else {
@@ -83,6 +87,64 @@ fn reads(sheet: &[u8], ours: &Result<Content, u32>) -> Verdict {
     let mut out = vec![0; sheet.len()];
     same("bytes written again", Ok(sheet.len()), rattle::write(&theirs, &mut out))?;
     same_lists("bytes written again", sheet, &out)
+}
+
+/// A check into lists of so many places: the sheet's refusal, then 8 where one is too short. What is refused writes nothing.
+fn checks(sheet: &[u8], ours: &Result<Content, u32>, places: [usize; 3]) -> Verdict {
+    let short = places.iter().zip(rattle::CHECKED).any(|(place, need)| *place < need);
+    let expected = ours.as_ref().err().copied().unwrap_or(if short { 8 } else { 0 });
+    let mut lists = Checked::blank();
+    same("refusal of a check", expected, rattle::check(sheet, places, &mut lists))?;
+    if expected != 0 {
+        return same("lists after a refused check", Checked::blank(), lists);
+    }
+    same("whether a check leaves the rest of its lists", true, lists.keeps_the_rest())
+}
+
+/// Every list by itself with every length that is too short, and all of them at once, for a sheet that is whole or has a fault.
+fn checked_short(rng: &mut Rng, tally: &mut Tally) {
+    let sheet = if rng.one_in(2) { faulty(rng, 4, 1) } else { bytes(&content(rng, 4, 4)) };
+    let ours = read(&sheet);
+    for places in too_short(rng, rattle::CHECKED) {
+        tally.counts.note(0, ours.as_ref().map_or_else(|k| *k as usize, |_| 8));
+        tally.note(checks(&sheet, &ours, places).map_err(|why| format!("lists of {places:?}: {why}")));
+    }
+    if let Ok(ours) = ours {
+        tally.counts.note(0, 0);
+        tally.note(left_out(rng, &sheet, &ours));
+    }
+}
+
+/// Numbers of places that are less than the needs in one list, or in some.
+fn too_short(rng: &mut Rng, needs: [usize; 3]) -> Vec<[usize; 3]> {
+    let mut all = Vec::new();
+    for i in 0..3 {
+        for less in 0..needs[i] {
+            let mut places = needs;
+            places[i] = less;
+            all.push(places);
+        }
+    }
+    all.extend((0..4).map(|_| needs.map(|need| rng.below(need as u64) as usize)));
+    all
+}
+
+/// A vertex and a triangle into lists with fewer places than they have numbers.
+fn left_out(rng: &mut Rng, sheet: &[u8], ours: &Content) -> Verdict {
+    let (n, t) = (ours.n(), ours.t());
+    for places in 0..2 * (n > 0) as usize {
+        let i = rng.below(n as u64) as usize;
+        let mut expected = [0.0; 2];
+        expected[..places].copy_from_slice(&ours.vertices[2 * i..][..places]);
+        same_floats("a vertex in few places", &expected, &rattle::vertex(&sheet[4..], i, places))?;
+    }
+    for places in 0..3 * (t > 0) as usize {
+        let i = rng.below(t as u64) as usize;
+        let mut expected = [0; 3];
+        expected[..places].copy_from_slice(&ours.triangles[3 * i..][..places]);
+        same_lists("corners in few places", &expected, &rattle::corners(&sheet[4 + 16 * n + 4..], i, places))?;
+    }
+    Ok(())
 }
 
 fn same_content(ours: &Content, theirs: &Content) -> Verdict {
@@ -186,13 +248,28 @@ fn each_content(rng: &mut Rng, tally: &mut Tally, count: usize, mut make: impl F
         let ours = check(&content).and(if space < needed { Err(8) } else { Ok(needed) });
         tally.counts.note(0, ours.map_or_else(|k| k as usize, |_| 0));
         let before: Vec<u8> = (0..space).map(|_| rng.next() as u8).collect();
-        tally.note(writes(&content, ours, before));
+        let presence = rng.pick(&[1, 1, 2, 255, 1 << 32, 1 << 63, u64::MAX]);
+        tally.note(writes(&content, ours, presence, rattle::WRITTEN, before));
     }
 }
 
-fn writes(content: &Content, ours: Result<usize, u32>, before: Vec<u8>) -> Verdict {
+/// Every list by itself with every length that is too short, and all of them at once: 8 before any other refusal.
+fn written_short(rng: &mut Rng, tally: &mut Tally) {
+    let content = if rng.one_in(2) { spoiled(rng, 1) } else { content(rng, 6, 8) };
+    let space = rng.below(2 * bytes(&content).len() as u64) as usize;
+    for places in too_short(rng, rattle::WRITTEN) {
+        tally.counts.note(0, 8);
+        let before = (0..space).map(|_| rng.next() as u8).collect();
+        tally.note(writes(&content, Err(8), 1, places, before).map_err(|why| format!("lists of {places:?}: {why}")));
+    }
+}
+
+/// A presence is any number but 0. What is refused writes nothing.
+fn writes(content: &Content, ours: Result<usize, u32>, presence: u64, places: [usize; 3], before: Vec<u8>) -> Verdict {
     let mut out = before.clone();
-    same("length or refusal", ours, rattle::write(content, &mut out))?;
+    let (theirs, left) = rattle::write_on(content, presence, places, &mut out);
+    same("length or refusal", ours, theirs)?;
+    same("whether the rest of the length's list is left", true, left)?;
     let mut expected = before;
     if let Ok(length) = ours {
         expected[..length].copy_from_slice(&bytes(content));

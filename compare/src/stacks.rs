@@ -72,7 +72,9 @@ fn called(rng: &mut Rng, content: &Content, run: &Run, trace: &Trace, passes: u6
         let said = opened.call_with(&mut machine, call, lent).map_err(|why| format!("{call:?}: {why}"))?;
         note(tally, call, said);
         opened.shows(run, trace.at(machine.place)).map_err(|why| format!("after {call:?}: {why}"))?;
-        opened.has_length(trace.at(machine.place))?;
+        for lent in [all, short] {
+            opened.has_length(trace.at(machine.place), lent)?;
+        }
     }
     near_the_most(&mut opened, &mut machine, passes, tally)?;
     opened.has_matrix(run)

@@ -26,10 +26,10 @@ fn put_shown(out: &mut [u8], run: Run, floats: &[f64], path: &[f64]) -> usize
     requires { ⌜ Steps.Room (now floats) (now path) (now out) ⌝ }
     ensures { λ r. ⌜ Printed (now (out .entry)) 0 (Steps.shownText run (now (floats .entry)) (now (path .entry))) r (now (out .exit)) ⌝ }
 {
-    let us = run::field(run, floats);
-    let rs = run::norms(run, floats);
-    let gs = run::gradients(run, floats);
-    let ps = run::points(run, path);
+    let us = showing::field(run, floats);
+    let rs = showing::norms(run, floats);
+    let gs = showing::gradients(run, floats);
+    let ps = showing::points(run, path);
     let s = run.stand;
     let walk = s.walk;
     text::put_run(
@@ -56,7 +56,7 @@ fn put_last(
     requires { ⌜ Steps.Room (now floats) (now path) (now out) ⌝ }
     ensures { λ r. ⌜ Steps.PutsLast opened (buffers (now (floats .entry)) (now (words .entry)) (now (path .entry))) (now (out .entry)) r (buffers (now (floats .exit)) (now (words .entry)) (now (path .exit))) (now (out .exit)) ⌝ }
 {
-    let answer = run::advance(opened, 4294967295, floats, words, path);
+    let answer = calls::advance(opened, 4294967295, floats, words, path);
     if answer.refused != 0 {
         return text::put_refused(out, 0, answer.refused as u64);
     }
@@ -77,7 +77,7 @@ pub fn print_sheet(
     if SHEET < sheet.len() {
         return text::put_refused(out, 0, 8);
     }
-    let opened = run::open(sheet, floats, words, path);
+    let opened = opening::open(sheet, floats, words, path);
     if opened.refused != 0 {
         return text::put_refused(out, 0, opened.refused as u64);
     }
