@@ -1,4 +1,5 @@
-// What refuses a call: the record's counts, the lent space, and every index and count that a pass would use.
+// What refuses a call: the record's counts, the lent space, and every index and count that a pass would use; and what the calls share that are not refused.
+use image::Answer;
 use work::Mark;
 use work::Plan;
 use work::Run;
@@ -11,7 +12,10 @@ ghost use Rattle.binary64.specs.Number.{pick};
 ghost use Rattle.stretch.specs.Stretch.{part};
 ghost use Rattle.model.specs.Space as Space;
 ghost use Rattle.image.specs.Calls as Calls;
-ghost use Rattle.image.specs.Calls.{buffers};
+ghost use Rattle.image.specs.Calls.{buffers, answered, soughtAt};
+ghost use Rattle.image.specs.Accepted.{Accepted};
+ghost use Rattle.image.specs.Exits.{movedRun};
+ghost use Rattle.work.specs.Ready.{Comes};
 
 pub fn least(a: usize, b: usize) -> usize
     ensures { λ r. ⌜ r ≡ min a b ⌝ }
@@ -129,4 +133,36 @@ pub fn held_fault(run: Run, floats: &[f64], words: &[u32], path: &[f64]) -> u32
     let mark = run.mark;
     let sound = stand_sound(p, s) & (mark_sound(p, mark) & words_sound(p, words));
     if sound { 0 } else { 10 }
+}
+
+// What a call answers.
+pub fn say(refused: u32, run: Run) -> Answer
+    ensures { λ r. ⌜ r ≡ answered refused run ⌝ }
+{
+    Answer { refused, run }
+}
+
+// The record at another place, with another count.
+pub fn moved(run: Run, stand: Stand, passes: u64) -> Run
+    ensures { λ r. ⌜ r ≡ movedRun run stand passes ⌝ }
+{
+    let plan = run.plan;
+    let mark = run.mark;
+    Run {
+        plan,
+        stand,
+        mark,
+        passes,
+    }
+}
+
+// The way to another place of this run.
+pub fn seek(run: Run, target: usize, floats: &mut [f64], words: &[u32], path: &mut [f64]) -> Stand
+    requires { ⌜ Accepted run (buffers (now floats) (now words) (now path)) × (target ≤ Space.farthest (run .plan .t) (run .plan .limit)) ⌝ }
+    ensures { λ r. ⌜ Comes (soughtAt run (buffers (now (floats .entry)) (now (words .entry)) (now (path .entry))) target) r (now (floats .exit)) (now (path .exit)) ⌝ }
+{
+    let plan = run.plan;
+    let stand = run.stand;
+    let mark = run.mark;
+    seek::seek(floats, words, path, plan, stand, mark, target)
 }

@@ -56,7 +56,7 @@ fn put_last(
     requires { ⌜ Steps.Room (now floats) (now path) (now out) ⌝ }
     ensures { λ r. ⌜ Steps.PutsLast opened (buffers (now (floats .entry)) (now (words .entry)) (now (path .entry))) (now (out .entry)) r (buffers (now (floats .exit)) (now (words .entry)) (now (path .exit))) (now (out .exit)) ⌝ }
 {
-    let answer = calls::advance(opened, 4294967295, floats, words, path);
+    let answer = advancing::advance(opened, 4294967295, floats, words, path);
     if answer.refused != 0 {
         return text::put_refused(out, 0, answer.refused as u64);
     }

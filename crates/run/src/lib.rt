@@ -1,7 +1,7 @@
 // The run: opening a sheet, the four calls, and what they show.
 mod replaying;
 
-pub use calls::advance;
+pub use advancing::advance;
 pub use calls::back;
 pub use calls::mark;
 pub use calls::return_to_mark;

@@ -18,7 +18,7 @@ pub fn perform(
     ensures { λ r. ⌜ Does (callOf kind k) run (buffers (now (floats .entry)) (now (words .entry)) (now (path .entry))) r (buffers (now (floats .exit)) (now (words .entry)) (now (path .exit))) ⌝ }
 {
     match kind {
-        0 => calls::advance(run, k, floats, words, path),
+        0 => advancing::advance(run, k, floats, words, path),
         1 => calls::back(run, k, floats, words, path),
         2 => calls::mark(run, floats, words, path),
         _ => calls::return_to_mark(run, floats, words, path),

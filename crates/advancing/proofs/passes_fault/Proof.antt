@@ -4,8 +4,8 @@ use mathlib.Core.Path.{sym, _∙_}
 use mathlib.Core.Bool.{true, false}
 use Rattle.image.specs.Exits.{over-says, gain-fits}
 use borrow.Author.Needs.{needs}
-use Rattle.calls.proofs.passes_fault.Statement.{statement}
-use Rattle.calls.proofs.passes_fault.Tie as tie
+use Rattle.advancing.proofs.passes_fault.Statement.{statement}
+use Rattle.advancing.proofs.passes_fault.Tie as tie
 
 sub-k : tie.Need-sub-k
 sub-k c = search needs

@@ -3,8 +3,8 @@ use native.Mathlib.Omega.{arith}
 use Rattle.image.specs.Calls.{buffers}
 use Rattle.image.specs.Exits.{cleared, admitted, does-early, advance-late, advance-rises, advance-fits, advance-done, counts-of}
 use borrow.Author.Needs.{needs}
-use Rattle.calls.proofs.advance.Statement.{statement}
-use Rattle.calls.proofs.advance.Tie as tie
+use Rattle.advancing.proofs.advance.Statement.{statement}
+use Rattle.advancing.proofs.advance.Tie as tie
 
 held-fault-requires : tie.Need-held-fault-requires
 held-fault-requires c κs = search needs

@@ -1,8 +1,8 @@
 -- `calls::over` meets its contract: a difference that fits tells of a sum that may not. Assumes nothing.
 use Rattle.image.specs.Exits.{over-test}
 use borrow.Author.Needs.{needs}
-use Rattle.calls.proofs.over.Statement.{statement}
-use Rattle.calls.proofs.over.Tie as tie
+use Rattle.advancing.proofs.over.Statement.{statement}
+use Rattle.advancing.proofs.over.Tie as tie
 
 sub-result : tie.Need-sub-result
 sub-result c = search needs
