@@ -1,4 +1,5 @@
-// Tests of the border between C and the archive: records, flags, lengths, NULLs, refusals that leave all as it was, and parts inside the lent space.
+// Tests of the border between C and the archive: what the header's names mean, records, flags, lengths, NULLs, refusals that leave all as it was, and parts inside
+// the lent space.
 // Prints how many tests there were and ends with 0, or prints what failed and ends with 1.
 
 #include "cintrok.h"
@@ -61,12 +62,14 @@ static cintrok_sheet check(const Sheet *sheet)
     return checked;
 }
 
-// ---- a run with more memory behind each lent buffer, so that a place written past its end shows
+// ---- a run with more memory in front of each lent buffer and behind it, so that a place written outside shows
+
+enum { FRONT = 8 };
 
 typedef struct {
-    double floats[200];
-    double path[100];
-    uint32_t words[200];
+    double floats[FRONT + 200];
+    double path[FRONT + 100];
+    uint32_t words[FRONT + 200];
     cintrok_run run;
     cintrok_sheet checked;
     double number;
@@ -85,38 +88,54 @@ static cintrok_space lend(Work *work)
 {
     cintrok_space space = needed();
     EXPECT(space.floats_count + 10 < 200 && space.words_count + 10 < 200 && space.path_count + 10 < 100);
-    space.floats = work->floats;
-    space.words = work->words;
-    space.path = work->path;
+    space.floats = work->floats + FRONT;
+    space.words = work->words + FRONT;
+    space.path = work->path + FRONT;
     return space;
+}
+
+// Memory is filled with a signalling NaN at each place of a double, which is another one as soon as it is loaded and stored as a number.
+static unsigned char filling(const unsigned char *place)
+{
+    static const uint64_t bits = UINT64_C(0x7ff4000000000001);
+    return ((const unsigned char *)&bits)[(uintptr_t)place % sizeof bits];
+}
+
+static void fill(void *places, size_t bytes)
+{
+    unsigned char *byte = (unsigned char *)places;
+    for (size_t i = 0; i < bytes; i++) {
+        byte[i] = filling(byte + i);
+    }
 }
 
 static bool is_filled(const void *places, size_t bytes)
 {
     const unsigned char *byte = (const unsigned char *)places;
     size_t i = 0;
-    while (i < bytes && byte[i] == 0x55) {
+    while (i < bytes && byte[i] == filling(byte + i)) {
         i++;
     }
     return i == bytes;
 }
 
-static bool is_untouched_behind(const Work *work)
+static bool is_untouched_around(const Work *work)
 {
     cintrok_space space = needed();
-    return is_filled(work->floats + space.floats_count, sizeof work->floats - space.floats_count * sizeof(double))
-        && is_filled(work->words + space.words_count, sizeof work->words - space.words_count * sizeof(uint32_t))
-        && is_filled(work->path + space.path_count, sizeof work->path - space.path_count * sizeof(double));
+    size_t floats = FRONT + space.floats_count, words = FRONT + space.words_count, path = FRONT + space.path_count;
+    return is_filled(work->floats, FRONT * sizeof(double)) && is_filled(work->floats + floats, sizeof work->floats - floats * sizeof(double))
+        && is_filled(work->words, FRONT * sizeof(uint32_t)) && is_filled(work->words + words, sizeof work->words - words * sizeof(uint32_t))
+        && is_filled(work->path, FRONT * sizeof(double)) && is_filled(work->path + path, sizeof work->path - path * sizeof(double));
 }
 
 static void open_square(Work *work)
 {
     Sheet sheet = square();
     cintrok_space space;
-    memset(work, 0x55, sizeof *work);
+    fill(work, sizeof *work);
     space = lend(work);
     EXPECT(cintrok_open(sheet.bytes, sheet.count, &space, &work->run) == 0);
-    EXPECT(is_untouched_behind(work));
+    EXPECT(is_untouched_around(work));
 }
 
 // ---- calls by number
@@ -134,12 +153,18 @@ static uint32_t call(int which, Work *work, const cintrok_space *space)
     }
 }
 
+// No double decides about a refusal, so each is a signalling NaN meanwhile.
 static void expect_refused(int which, Work *work, const cintrok_space *space, uint32_t number)
 {
-    Work before;
+    Work kept, before;
+    memcpy(&kept, work, sizeof kept);
+    fill(work->run.reals, sizeof work->run.reals);
+    fill(work->floats, sizeof work->floats);
+    fill(work->path, sizeof work->path);
     memcpy(&before, work, sizeof before);
     EXPECT(call(which, work, space) == number);
     EXPECT(memcmp(&before, work, sizeof before) == 0);
+    memcpy(work, &kept, sizeof kept);
 }
 
 static void expect_all_refused(Work *work, const cintrok_space *space, uint32_t number)
@@ -240,7 +265,7 @@ static void test_check_refusals(void)
 {
     Sheet sheet = square();
     Work work, before;
-    memset(&work, 0x55, sizeof work);
+    fill(&work, sizeof work);
     memcpy(&before, &work, sizeof before);
     for (size_t count = 0; count < sheet.count; count++) {
         cintrok_space space = lend(&work);
@@ -257,7 +282,7 @@ static void test_short_write(void)
 {
     Sheet whole = square(), sheet, before;
     cintrok_settings settings = all_settings();
-    memset(&sheet, 0x55, sizeof sheet);
+    fill(&sheet, sizeof sheet);
     memcpy(&before, &sheet, sizeof before);
     for (size_t count = 0; count < whole.count; count++) {
         EXPECT(write_square(&settings, sheet.bytes, count, &sheet.count) == CINTROK_REFUSED_SPACE);
@@ -273,7 +298,7 @@ static void test_short_write(void)
 static void expect_unwritten(const cintrok_settings *settings, uint32_t number)
 {
     Sheet sheet, before;
-    memset(&sheet, 0x55, sizeof sheet);
+    fill(&sheet, sizeof sheet);
     memcpy(&before, &sheet, sizeof before);
     EXPECT(write_square(settings, sheet.bytes, sizeof sheet.bytes, &sheet.count) == number);
     EXPECT(memcmp(&before, &sheet, sizeof before) == 0);
@@ -338,7 +363,7 @@ static void test_space_needed(void)
     cintrok_space space = needed(), before;
     EXPECT(space.floats == NULL && space.words == NULL && space.path == NULL);
     EXPECT(space.floats_count == 12 * N + 12 * T + LIMIT + 32 && space.words_count == 8 * N + 32 * T + 32 && space.path_count == 2 * ROOM);
-    memset(&space, 0x55, sizeof space);
+    fill(&space, sizeof space);
     memcpy(&before, &space, sizeof before);
     EXPECT(cintrok_space_needed(CINTROK_MAX_VERTICES + 1, T, LIMIT, ROOM, &space) == CINTROK_REFUSED_COUNT);
     EXPECT(cintrok_space_needed(N, CINTROK_MAX_TRIANGLES + 1, LIMIT, ROOM, &space) == CINTROK_REFUSED_COUNT);
@@ -369,7 +394,7 @@ static void test_short_space(void)
     Sheet sheet = square();
     Work work, before;
     for (int which = 0; which < 6; which++) {
-        memset(&work, 0x55, sizeof work);
+        fill(&work, sizeof work);
         memcpy(&before, &work, sizeof before);
         cintrok_space space = short_space(&work, which);
         EXPECT(cintrok_open(sheet.bytes, sheet.count, &space, &work.run) == CINTROK_REFUSED_SPACE);
@@ -427,6 +452,7 @@ static void test_short_records(void)
     open_square(&work);
     cintrok_space s = lend(&work);
     EXPECT(cintrok_mark(&work.run, &s) == 0);
+    fill(work.run.reals, sizeof work.run.reals);
     memcpy(&before, &work, sizeof before);
     for (int which = 0; which < CALLS; which++) {
         EXPECT(raw_call(which, &work, &s, 16, 8) == CINTROK_REFUSED_SPACE);
@@ -446,19 +472,18 @@ static void test_short_records(void)
 
 static void test_short_lists(void)
 {
+    struct {
+        uint64_t head[6], wholes[8], counts[3];
+        double reals[4];
+    } lists;
     Sheet sheet = square();
-    uint64_t head[6] = {7, 7, 7, 7, 7, 7}, wholes[8] = {7, 7, 7, 7, 7, 7, 7, 7}, counts[3] = {7, 7, 7};
-    double reals[4] = {7, 7, 7, 7};
-    uint64_t sum = 0;
-    EXPECT(cintrok_raw_check(sheet.bytes, sheet.count, head, 5, wholes, 8, reals, 4) == CINTROK_REFUSED_SPACE);
-    EXPECT(cintrok_raw_check(sheet.bytes, sheet.count, head, 6, wholes, 7, reals, 4) == CINTROK_REFUSED_SPACE);
-    EXPECT(cintrok_raw_check(sheet.bytes, sheet.count, head, 6, wholes, 8, reals, 3) == CINTROK_REFUSED_SPACE);
-    EXPECT(cintrok_raw_check(sheet.bytes, sheet.count - 1, head, 0, wholes, 0, reals, 0) == CINTROK_REFUSED_LENGTH);
-    EXPECT(cintrok_raw_space_needed(N, T, LIMIT, ROOM, counts, 2) == CINTROK_REFUSED_SPACE);
-    for (int i = 0; i < 17; i++) {
-        sum += i < 6 ? head[i] : i < 14 ? wholes[i - 6] : counts[i - 14];
-    }
-    EXPECT(sum == 7 * 17 && reals[0] + reals[1] + reals[2] + reals[3] == 28);
+    fill(&lists, sizeof lists);
+    EXPECT(cintrok_raw_check(sheet.bytes, sheet.count, lists.head, 5, lists.wholes, 8, lists.reals, 4) == CINTROK_REFUSED_SPACE);
+    EXPECT(cintrok_raw_check(sheet.bytes, sheet.count, lists.head, 6, lists.wholes, 7, lists.reals, 4) == CINTROK_REFUSED_SPACE);
+    EXPECT(cintrok_raw_check(sheet.bytes, sheet.count, lists.head, 6, lists.wholes, 8, lists.reals, 3) == CINTROK_REFUSED_SPACE);
+    EXPECT(cintrok_raw_check(sheet.bytes, sheet.count - 1, lists.head, 0, lists.wholes, 0, lists.reals, 0) == CINTROK_REFUSED_LENGTH);
+    EXPECT(cintrok_raw_space_needed(N, T, LIMIT, ROOM, lists.counts, 2) == CINTROK_REFUSED_SPACE);
+    EXPECT(is_filled(&lists, sizeof lists));
 }
 
 static void test_short_writers(void)
@@ -500,7 +525,7 @@ static void test_showing_each_place(void)
         EXPECT(cintrok_norms(&work.run, &space, &work.values, &work.count) == 0 && shows(cintrok_norms, &work, &space, 1, work.count));
         EXPECT(cintrok_points(&work.run, &space, &work.values, &work.count) == 0 && shows(cintrok_points, &work, &space, 2, work.count));
         EXPECT(cintrok_field_end(&work.run) == 0 ? work.count == 0 : work.count <= ROOM);
-        EXPECT(cintrok_advance(&work.run, 1, &space) == 0 && is_untouched_behind(&work));
+        EXPECT(cintrok_advance(&work.run, 1, &space) == 0 && is_untouched_around(&work));
     }
     EXPECT(cintrok_field_end(&work.run) != 0 && cintrok_path_end(&work.run) != 0);
     EXPECT(cintrok_points(&work.run, &space, &work.values, &work.count) == 0 && work.count > 1 && work.values == space.path);
@@ -575,7 +600,7 @@ static void test_calls(void)
     EXPECT(cintrok_return(&work.run, &space) == 0 && cintrok_place(&work.run) == last - 1);
     EXPECT(cintrok_advance(&work.run, 1, &space) == 0 && cintrok_passes(&work.run) == last + 1 && cintrok_path_end(&work.run) != 0);
     EXPECT(memcmp(before.path, work.path, sizeof work.path) == 0);
-    EXPECT(is_untouched_behind(&work));
+    EXPECT(is_untouched_around(&work));
 }
 
 static void test_most_passes(void)
@@ -601,24 +626,233 @@ static void test_empty_mesh(void)
     EXPECT(cintrok_write_sheet(NULL, 0, NULL, 0, NULL, NULL, &settings, sheet.bytes, sizeof sheet.bytes, &sheet.count) == 0);
     checked = check(&sheet);
     EXPECT(checked.n == 0 && checked.t == 0);
-    memset(&work, 0x55, sizeof work);
+    fill(&work, sizeof work);
     cintrok_space space = lend(&work);
     EXPECT(cintrok_open(sheet.bytes, sheet.count, &space, &work.run) == 0 && cintrok_advance(&work.run, 100, &space) == 0);
     EXPECT(shows(cintrok_field, &work, &space, 1, 0) && shows(cintrok_gradients, &work, &space, 2, 0) && shows(cintrok_points, &work, &space, 2, 0));
     EXPECT(cintrok_path_end(&work.run) == CINTROK_PATH_START_OUTSIDE);
 }
 
-// ---- refusals in words
+// ---- what the names mean
 
+// The refusals of README.md.
 static void test_texts(void)
 {
-    EXPECT(strcmp(cintrok_refusal_text(0), "no refusal") == 0);
-    EXPECT(strcmp(cintrok_refusal_text(8), "lent space short") == 0);
-    EXPECT(strcmp(cintrok_refusal_text(11), "unknown refusal") == 0 && strcmp(cintrok_refusal_text(UINT32_MAX), "unknown refusal") == 0);
-    for (uint32_t i = 0; i < 11; i++) {
-        for (uint32_t j = i + 1; j <= 11; j++) {
-            EXPECT(strcmp(cintrok_refusal_text(i), cintrok_refusal_text(j)) != 0);
+    static const char *const texts[] = {
+        "no refusal",
+        "the sheet is too short, or bytes are left over",
+        "a count over its limit",
+        "the neighbours are not 3T, or the tags not n",
+        "a vertex number, neighbour or tag outside its set",
+        "a setting unknown or not rising; step, room or half a start missing",
+        "a NaN",
+        "infinite, or outside its range",
+        "lent space short",
+        "a return with no mark",
+        "an index or count in the work or the record outside its range, or passes beyond 2^64 - 1",
+        "unknown refusal"};
+    for (uint32_t i = 0; i < 12; i++) {
+        EXPECT(strcmp(cintrok_refusal_text(i), texts[i]) == 0);
+    }
+    EXPECT(strcmp(cintrok_refusal_text(UINT32_MAX), "unknown refusal") == 0);
+}
+
+// One triangle, sample S1 of README.md, and its settings.
+static const double corners_at[] = {0, 0, 2, 0, 0, 2};
+static const uint32_t one_triangle[] = {0, 1, 2};
+static const int32_t alone[] = {CINTROK_NO_NEIGHBOUR, CINTROK_NO_NEIGHBOUR, CINTROK_NO_NEIGHBOUR};
+static const uint8_t corner_tags[] = {CINTROK_TAG_INNER, CINTROK_TAG_OUTER, CINTROK_TAG_NONE};
+
+static cintrok_settings few_settings(void)
+{
+    cintrok_settings settings = {false, false, true, true, true, true, 0, 0, 0x1p-1000, 0.5, 0.5, 100};
+    return settings;
+}
+
+static Sheet triangle(const cintrok_settings *settings)
+{
+    Sheet sheet;
+    memset(&sheet, 0, sizeof sheet);
+    EXPECT(cintrok_write_sheet(corners_at, 3, one_triangle, 1, alone, corner_tags, settings, sheet.bytes, sizeof sheet.bytes, &sheet.count) == 0);
+    return sheet;
+}
+
+// A run at its end. The buffers hold a little more than the default limit needs, whatever the header says it is.
+enum { PLENTY = 1200, WORDS_PLENTY = 300 };
+
+typedef struct {
+    double floats[PLENTY];
+    double path[PLENTY];
+    uint32_t words[WORDS_PLENTY];
+    cintrok_run run;
+} Ended;
+
+static cintrok_space plenty(Ended *ended)
+{
+    cintrok_space space = {ended->floats, PLENTY, ended->words, WORDS_PLENTY, ended->path, PLENTY};
+    return space;
+}
+
+static bool run_to_end(const Sheet *sheet, Ended *ended)
+{
+    cintrok_space space = plenty(ended);
+    fill(ended, sizeof *ended);
+    return cintrok_open(sheet->bytes, sheet->count, &space, &ended->run) == 0 && cintrok_advance(&ended->run, UINT32_MAX, &space) == 0;
+}
+
+static bool ends(const Sheet *sheet, uint64_t field_end, uint64_t path_end)
+{
+    Ended ended;
+    return run_to_end(sheet, &ended) && cintrok_field_end(&ended.run) == field_end && cintrok_path_end(&ended.run) == path_end;
+}
+
+static void test_ends(void)
+{
+    cintrok_settings settings = few_settings();
+    Sheet sheet = triangle(&settings);
+    EXPECT(ends(&sheet, CINTROK_FIELD_SOLVED, CINTROK_PATH_BORDER));
+    settings.room = 4;
+    sheet = triangle(&settings);
+    EXPECT(ends(&sheet, CINTROK_FIELD_SOLVED, CINTROK_PATH_ROOM));
+    settings = few_settings();
+    settings.has_limit = true;
+    sheet = triangle(&settings);
+    EXPECT(ends(&sheet, CINTROK_FIELD_LIMIT, CINTROK_PATH_FLAT));
+    settings = few_settings();
+    settings.has_tolerance = true;
+    sheet = triangle(&settings);
+    EXPECT(ends(&sheet, CINTROK_FIELD_STALLED, CINTROK_PATH_BORDER));
+    settings = few_settings();
+    settings.start_x = settings.start_y = 3;
+    sheet = triangle(&settings);
+    EXPECT(ends(&sheet, CINTROK_FIELD_SOLVED, CINTROK_PATH_START_OUTSIDE));
+}
+
+// A neighbour that does not name the triangle back; a triangle that is its own neighbour, from which the path comes near the outer corner or finds no way out.
+static void test_wrong_neighbours(void)
+{
+    static const int32_t one_sided[] = {-1, -1, 1, -1, -1, -1}, itself[] = {0, 0, 0};
+    cintrok_settings settings = all_settings();
+    Sheet sheet;
+    memset(&sheet, 0, sizeof sheet);
+    EXPECT(cintrok_write_sheet(vertices, N, triangles, T, one_sided, tags, &settings, sheet.bytes, sizeof sheet.bytes, &sheet.count) == 0);
+    EXPECT(ends(&sheet, CINTROK_FIELD_SOLVED, CINTROK_PATH_ONE_SIDED));
+    settings = few_settings();
+    EXPECT(cintrok_write_sheet(corners_at, 3, one_triangle, 1, itself, corner_tags, &settings, sheet.bytes, sizeof sheet.bytes, &sheet.count) == 0);
+    EXPECT(ends(&sheet, CINTROK_FIELD_SOLVED, CINTROK_PATH_NO_EXIT));
+    settings.start_x = 1.99;
+    settings.start_y = 0x1p-10;
+    EXPECT(cintrok_write_sheet(corners_at, 3, one_triangle, 1, itself, corner_tags, &settings, sheet.bytes, sizeof sheet.bytes, &sheet.count) == 0);
+    EXPECT(ends(&sheet, CINTROK_FIELD_SOLVED, CINTROK_PATH_OUTER));
+}
+
+// A ring of six triangles around a small one; with so short a step the path goes round until its passes are used up.
+static void test_crossings(void)
+{
+    static const double ring[] = {0.0625, 0, -0.03125, 0.0625, -0.03125, -0.0625, 0.25, 0, -0.125, 0.25, -0.125, -0.25};
+    static const uint32_t around[] = {0, 3, 4, 0, 4, 1, 1, 4, 5, 1, 5, 2, 2, 5, 3, 2, 3, 0};
+    static const int32_t beside[] = {5, -1, 1, 0, 2, -1, 1, -1, 3, 2, 4, -1, 3, -1, 5, 4, 0, -1};
+    static const uint8_t ring_tags[] = {CINTROK_TAG_INNER, CINTROK_TAG_INNER, CINTROK_TAG_INNER, CINTROK_TAG_OUTER, CINTROK_TAG_OUTER, CINTROK_TAG_OUTER};
+    cintrok_settings settings = few_settings();
+    uint8_t bytes[2 * SHEET_BYTES];
+    Ended ended;
+    cintrok_space space = plenty(&ended);
+    size_t count = 0;
+    settings.start_x = 0.125;
+    settings.start_y = 0;
+    settings.room = PLENTY / 2;
+    fill(&ended, sizeof ended);
+    EXPECT(cintrok_write_sheet(ring, 6, around, 6, beside, ring_tags, &settings, bytes, sizeof bytes, &count) == 0);
+    EXPECT(cintrok_open(bytes, count, &space, &ended.run) == 0 && cintrok_advance(&ended.run, UINT32_MAX, &space) == 0);
+    EXPECT(cintrok_field_end(&ended.run) == CINTROK_FIELD_SOLVED && cintrok_path_end(&ended.run) == CINTROK_PATH_CROSSINGS);
+}
+
+// Without a start: no triangles, and sample S10 of the specification, a free vertex of no triangle in front of the triangle's.
+static void test_no_start(void)
+{
+    static const double four[] = {5, 5, 0, 0, 2, 0, 0, 2};
+    static const uint32_t behind[] = {1, 2, 3};
+    static const uint8_t four_tags[] = {CINTROK_TAG_NONE, CINTROK_TAG_INNER, CINTROK_TAG_OUTER, CINTROK_TAG_NONE};
+    cintrok_settings settings = few_settings();
+    Sheet sheet;
+    Ended ended;
+    settings.has_start_x = settings.has_start_y = false;
+    memset(&sheet, 0, sizeof sheet);
+    EXPECT(cintrok_write_sheet(four, 4, behind, 1, alone, four_tags, &settings, sheet.bytes, sizeof sheet.bytes, &sheet.count) == 0);
+    EXPECT(ends(&sheet, CINTROK_FIELD_SOLVED, CINTROK_PATH_NO_START));
+    EXPECT(cintrok_write_sheet(NULL, 0, NULL, 0, NULL, NULL, &settings, sheet.bytes, sizeof sheet.bytes, &sheet.count) == 0);
+    EXPECT(run_to_end(&sheet, &ended) && cintrok_path_end(&ended.run) == CINTROK_PATH_NO_START);
+}
+
+// Held at 1, held at 0, and between them where it is free.
+static void test_tags(void)
+{
+    cintrok_settings settings = few_settings();
+    Sheet sheets[] = {square(), triangle(&settings)};
+    for (int which = 0; which < 2; which++) {
+        cintrok_sheet checked = check(&sheets[which]);
+        Ended ended;
+        cintrok_space space = plenty(&ended);
+        const double *field = NULL;
+        size_t count = 0;
+        EXPECT(run_to_end(&sheets[which], &ended) && cintrok_field_end(&ended.run) != CINTROK_FIELD_UNFINISHED);
+        EXPECT(cintrok_field(&ended.run, &space, &field, &count) == 0 && count == checked.n);
+        for (size_t i = 0; i < count; i++) {
+            uint8_t tag = 7;
+            EXPECT(cintrok_tag(sheets[which].bytes, sheets[which].count, &checked, i, &tag) == 0);
+            EXPECT(tag != CINTROK_TAG_OUTER || field[i] == 1);
+            EXPECT(tag != CINTROK_TAG_INNER || field[i] == 0);
+            EXPECT(tag != CINTROK_TAG_NONE || which == 1 || (field[i] > 0.25 && field[i] < 0.75));
         }
+    }
+}
+
+// What is absent is as if the header's number had been given, to the last bit of the record and the space.
+static void test_defaults(void)
+{
+    cintrok_settings settings = few_settings();
+    Sheet absent = triangle(&settings), given;
+    Ended without, with;
+    cintrok_space space = plenty(&without), needs = space;
+    settings.has_limit = true;
+    settings.limit = CINTROK_DEFAULT_LIMIT;
+    given = triangle(&settings);
+    EXPECT(run_to_end(&absent, &without) && run_to_end(&given, &with) && memcmp(&without, &with, sizeof with) == 0);
+    settings = few_settings();
+    settings.has_tolerance = true;
+    settings.tolerance = CINTROK_DEFAULT_TOLERANCE;
+    given = triangle(&settings);
+    EXPECT(run_to_end(&absent, &without) && run_to_end(&given, &with) && memcmp(&without, &with, sizeof with) == 0);
+    EXPECT(cintrok_space_needed(3, 1, CINTROK_DEFAULT_LIMIT, settings.room, &needs) == 0 && needs.floats_count <= PLENTY);
+    space.floats_count = needs.floats_count <= PLENTY ? needs.floats_count - 1 : 0;
+    fill(&without, sizeof without);
+    EXPECT(cintrok_open(absent.bytes, absent.count, &space, &without.run) == CINTROK_REFUSED_SPACE && is_filled(&without, sizeof without));
+    space.floats_count++;
+    EXPECT(cintrok_open(absent.bytes, absent.count, &space, &without.run) == 0);
+}
+
+static double beyond(double number)
+{
+    uint64_t bits;
+    memcpy(&bits, &number, sizeof bits);
+    bits++;
+    memcpy(&number, &bits, sizeof bits);
+    return number;
+}
+
+static void test_coordinates(void)
+{
+    static const double most[] = {CINTROK_MAX_COORDINATE, -CINTROK_MAX_COORDINATE};
+    cintrok_settings settings = few_settings();
+    Sheet sheet;
+    for (size_t i = 0; i < 12; i++) {
+        double points[6] = {0, 0, 2, 0, 0, 2};
+        points[i % 6] = most[i / 6];
+        EXPECT(cintrok_write_sheet(points, 3, one_triangle, 1, alone, corner_tags, &settings, sheet.bytes, sizeof sheet.bytes, &sheet.count) == 0);
+        points[i % 6] = beyond(most[i / 6]);
+        fill(&sheet, sizeof sheet);
+        EXPECT(cintrok_write_sheet(points, 3, one_triangle, 1, alone, corner_tags, &settings, sheet.bytes, sizeof sheet.bytes, &sheet.count) == CINTROK_REFUSED_RANGE);
+        EXPECT(is_filled(&sheet, sizeof sheet));
     }
 }
 
@@ -627,7 +861,8 @@ int main(void)
     static void (*const all[])(void) = {
         test_round_trip, test_missing_items, test_check_refusals, test_short_write, test_wrong_settings, test_wrong_lists, test_space_needed, test_short_space,
         test_flags, test_altered_records, test_short_records, test_short_lists, test_short_writers, test_showing_each_place, test_showing_before_the_start,
-        test_showing_nothing, test_showing_short_lists, test_calls, test_most_passes, test_empty_mesh, test_texts};
+        test_showing_nothing, test_showing_short_lists, test_calls, test_most_passes, test_empty_mesh, test_texts,
+        test_ends, test_wrong_neighbours, test_crossings, test_no_start, test_tags, test_defaults, test_coordinates};
     for (size_t i = 0; i < sizeof all / sizeof all[0]; i++) {
         all[i]();
     }

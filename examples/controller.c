@@ -104,15 +104,20 @@ static bool allocate_space(cintrok_space *space)
 
 // ---- the run
 
+// One line on a terminal, written over at each step, and ended by run_sheet.
 static void show_progress(const cintrok_run *run, const cintrok_space *space)
 {
     const double *points;
     size_t count;
     if (isatty(fileno(stderr)) && cintrok_points(run, space, &points, &count) == 0) {
         fprintf(stderr, "\rplace %" PRIu64 ", %zu points ", cintrok_place(run), count);
-        if (cintrok_path_end(run) != CINTROK_PATH_UNFINISHED) {
-            fputc('\n', stderr);
-        }
+    }
+}
+
+static void end_progress(void)
+{
+    if (isatty(fileno(stderr))) {
+        fputc('\n', stderr);
     }
 }
 
@@ -150,13 +155,19 @@ static uint32_t advance_to_end(cintrok_run *run, uint32_t step, const cintrok_sp
 static uint32_t run_sheet(const Sheet *sheet, uint32_t step, const cintrok_space *space, cintrok_run *run)
 {
     uint32_t refused = cintrok_open(sheet->bytes, sheet->count, space, run);
-    if (refused == 0) {
-        refused = advance_half_way(run, step, space);
+    if (refused != 0) {
+        return refused;
     }
+    refused = advance_half_way(run, step, space);
     if (refused == 0) {
         refused = look_back(run, step, space);
     }
-    return refused == 0 ? advance_to_end(run, step, space) : refused;
+    if (refused == 0) {
+        refused = advance_to_end(run, step, space);
+    }
+    // what is said next, a refusal too, stands on a line of its own
+    end_progress();
+    return refused;
 }
 
 // ---- output

@@ -7,14 +7,16 @@
 //     cintrok_advance        some passes on, until cintrok_path_end is no longer 0
 //     cintrok_points         the path: x, y of each point, inside the lent space
 //
-// This header and libcintrok.a are all that is needed. The archive keeps nothing between calls, allocates nothing and calls nothing outside itself but memset,
+// This header and libcintrok.a, which is for x86-64 Linux, are all that is needed. The archive keeps nothing between calls, allocates nothing and calls nothing outside itself but memset,
 // memcpy and the like, which a compiler puts in.
 //
 // What the caller keeps to:
-// - Every count is the true number of places behind its pointer. A NULL counts as no places.
+// - Every count is the true number of places behind its pointer, and a buffer is aligned for its type. Only lists and buffers may be NULL, which counts as no
+//   places; a pointer to a space, a run, settings, a checked sheet or a result may not.
 // - No two of the buffers, records and results that are handed to one call overlap.
 // - A run and its space are in one call at a time. Different runs in different spaces may be called side by side.
-// - A run goes with the space in which it was opened, unchanged but by these calls. It may be moved: the same contents elsewhere serve as well.
+// - A run goes with the space in which it was opened, unchanged but by these calls: lend what the run was opened with, or at least the space rule's part of it.
+//   What is lent behind that is not the run's. It may be moved: the same contents elsewhere serve as well.
 // - Doubles are rounded to nearest and subnormals are kept, as a program starts out.
 //
 // Stack: no call takes more than 16 KB, but for an advance of a run whose passes are near 2^64 - 1, which takes 98,304 bytes and a little more.
@@ -66,7 +68,7 @@ extern "C" {
 // Refusals.
 #define CINTROK_REFUSED_LENGTH UINT32_C(1)    // the sheet is too short, or bytes are left over
 #define CINTROK_REFUSED_COUNT UINT32_C(2)     // a count over its limit
-#define CINTROK_REFUSED_UNEVEN UINT32_C(3)    // the neighbours are not three for each triangle, or the tags not one for each vertex
+#define CINTROK_REFUSED_UNEVEN UINT32_C(3)    // the neighbours are not 3T, or the tags not n
 #define CINTROK_REFUSED_OUTSIDE UINT32_C(4)   // a vertex number, neighbour or tag outside its set
 #define CINTROK_REFUSED_SETTING UINT32_C(5)   // a setting unknown or not rising; step, room or half a start missing
 #define CINTROK_REFUSED_NAN UINT32_C(6)       // a NaN
@@ -206,7 +208,7 @@ static inline const char *cintrok_refusal_text(uint32_t refused)
     case 0: return "no refusal";
     case CINTROK_REFUSED_LENGTH: return "the sheet is too short, or bytes are left over";
     case CINTROK_REFUSED_COUNT: return "a count over its limit";
-    case CINTROK_REFUSED_UNEVEN: return "the neighbours are not three for each triangle, or the tags not one for each vertex";
+    case CINTROK_REFUSED_UNEVEN: return "the neighbours are not 3T, or the tags not n";
     case CINTROK_REFUSED_OUTSIDE: return "a vertex number, neighbour or tag outside its set";
     case CINTROK_REFUSED_SETTING: return "a setting unknown or not rising; step, room or half a start missing";
     case CINTROK_REFUSED_NAN: return "a NaN";
@@ -344,7 +346,8 @@ static inline void cintrok_inner_numbers(const cintrok_settings *settings, uint6
 
 // Writes a sheet to the front of `out`, and its length in bytes to `written`; CINTROK_MAX_SHEET_BYTES are always enough. `vertices` has x, y of each vertex,
 // `triangles` three vertex numbers and `neighbours` three triangles (or CINTROK_NO_NEIGHBOUR) of each triangle, `tags` one of each vertex.
-// Refused by 2 to 7 as a sheet with these contents is; then by 8 where `out` is shorter than the sheet. A list that is NULL though it has items is refused with 3.
+// A list that is NULL though it has items is refused with 3, before anything else. Then refused by 2 to 7 as a sheet with these contents is; then by 8 where `out`
+// is shorter than the sheet.
 static inline uint32_t cintrok_write_sheet(const double *vertices, size_t vertex_count, const uint32_t *triangles, size_t triangle_count, const int32_t *neighbours,
                                            const uint8_t *tags, const cintrok_settings *settings, uint8_t *out, size_t out_count, size_t *written)
 {

@@ -1,4 +1,4 @@
-//! The Rattle functions, by the C names of crates/exports. compare/run holds each declaration to crates/exports/src/lib.rt,
+//! The Rattle functions, by the C names of crates/exports_numbers. compare/run holds each declaration to crates/exports_numbers/src/lib.rt,
 //! where a slice `out` is one parameter for two here, its pointer and its length `out_len`.
 
 use crate::stand_ins::Point;

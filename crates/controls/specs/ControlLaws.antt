@@ -2,7 +2,7 @@
 use Prim.Native.Nat.{ℕ, zero, suc, _+_, _*_, _≤_}
 use native.Mathlib.Omega.{arith}
 use mathlib.Core.Bool.{Bool, true, false, _&&_}
-use mathlib.Core.Path.{_≡_, refl, sym, ap, _∙_}
+use mathlib.Core.Path.{_≡_, refl, sym, ap, _∙_, subst}
 use mathlib.Core.List.{List, [], _∷_, _++_}
 use borrow.Author.Tests.{eqb-true, leb-true, ne-eqb}
 use lib.Dec.{eqb, leb}
@@ -13,8 +13,11 @@ use Rattle.binary64.specs.Number.{pick}
 use Rattle.stretch.specs.Stretch.{part}
 use Rattle.stretch.specs.StretchLaws.{length-part, part-zero}
 use Rattle.pde.specs.Path.{pointFloats}
-use Rattle.format.specs.Content.{maxVertices, maxTriangles}
+use Rattle.format.specs.Content.{Content, maxVertices, maxTriangles}
 use Rattle.format.specs.Refusal.{_then_}
+use Rattle.format.specs.Bytes.{Bytes}
+use Rattle.format.specs.Sheet.{parse, accepted}
+use Rattle.model.specs.Task.{task}
 use Rattle.model.specs.Machine.{Call, Lent}
 use Rattle.work.specs.declared.Plan.{Plan}
 use Rattle.work.specs.declared.Run.{Run}
@@ -26,10 +29,11 @@ use Rattle.image.specs.Lists.{Held, front, behind, performed, performs}
 use Rattle.image.specs.Parts.{within, counted, fieldOf, normsOf, gradientsOf}
 use Rattle.image.specs.Points.{pointsOf}
 use Rattle.image.specs.Replay.{opened}
-use Rattle.image.specs.Theorem.{begun}
+use Rattle.image.specs.Shown.{lengthsOf, machine, ListShown, HandedOut}
+use Rattle.image.specs.Theorem.{begun, lists-from-sheet, handed-from-sheet}
 use Rattle.records.specs.Numbers.{fits, flagged, runFrom, wholesRun, realsRun}
 use Rattle.records.specs.NumberLaws.{Holds, put-holds}
-use Rattle.controls.specs.Controls.{heldFaultIn, faultIn, openFaultIn, unlessRefused, startBy, countedAt, fieldAt, normsAt, gradientsAt}
+use Rattle.controls.specs.Controls.{heldFaultIn, faultIn, openFaultIn, unlessRefused, OpenedIn, Called, startBy, countedAt, fieldAt, normsAt, gradientsAt}
 use Rattle.controls.specs.Lists.{HeldIn, calledIn, callsIn}
 
 -- ---- one call
@@ -94,10 +98,55 @@ opened-holds sheet ns xs b e =
     fitted true z = refl
     fitted false z = absurd (omega (arith, z))
 
--- Demand 3 under C names: from a sheet that was opened on the numbers, whatever calls are made. What `lists-from-sheet` (crate image) says of the calls on the record holds of those on its numbers.
+-- ---- what the contracts say is what the lists are made of
+
+-- a call as its contract (`Called`) leaves it, on the front of each buffer
+pub called-is : (l : Lent) (h : HeldIn) (r : ℕ) (ns′ : List ℕ) (xs′ : List Float) (b′ : Buffers) → Called (l .call) (h .wholes) (h .reals) (front (l .space) (h .all)) r ns′ xs′ b′
+    → record { wholes = ns′; reals = xs′; all = behind (l .space) (h .all) b′; said = h .said ++ (r ∷ []) } ≡ calledIn l h
+unfolding calledIn
+called-is l h r ns′ xs′ b′ c = rw (c .said, c .wholes, c .reals, c .held)
+
+-- the numbers and the buffers of an opened sheet
+abbrev pub begunIn : List ℕ → List ℕ → List Float → Buffers → HeldIn
+begunIn sheet ns xs b = record { wholes = wholesRun (opened sheet b .answer .run) ns; reals = realsRun (opened sheet b .answer .run) xs; all = opened sheet b .all; said = [] }
+
+-- an opening as its contract (`OpenedIn`) leaves it, where it is not refused
+pub opened-is : (sheet ns : List ℕ) (xs : List Float) (b : Buffers) (ns′ : List ℕ) (xs′ : List Float) (b′ : Buffers) → OpenedIn sheet ns xs b 0 ns′ xs′ b′
+    → (openFaultIn sheet ns xs b ≡ 0) × (record { wholes = ns′; reals = xs′; all = b′; said = [] } ≡ begunIn sheet ns xs b)
+opened-is sheet ns xs b ns′ xs′ b′ o =
+    let e : openFaultIn sheet ns xs b ≡ 0 = sym (o .said) in
+    let p : ns′ ≡ wholesRun (opened sheet b .answer .run) ns = o .wholes ∙ rw e in
+    let q : xs′ ≡ realsRun (opened sheet b .answer .run) xs = o .reals ∙ rw e in
+    let s : b′ ≡ opened sheet b .all = o .held ∙ rw e in
+    (e, rw (p, q, s))
+
+-- ---- demand 3 under C names
+
+-- what the numbers stand for
+abbrev pub heldOf : HeldIn → Held
+heldOf n = record { run = runFrom (n .wholes) (n .reals); all = n .all; said = n .said }
+
+follows-is : (h : Held) (n : HeldIn) → Follows h n → heldOf n ≡ h
+follows-is h n f = rw (f .holds .reads, f .all, f .said)
+
+-- From a sheet that was opened on lists of numbers, whatever calls are made on them and whatever is lent: they come to what the calls on the record come to.
 pub opened-calls-follow : (sheet ns : List ℕ) (xs : List Float) (b : Buffers) → openFaultIn sheet ns xs b ≡ 0 → (ls : List Lent)
-    → Follows (performs ls (begun (opened sheet b .answer .run) (opened sheet b .all))) (callsIn ls (record { wholes = wholesRun (opened sheet b .answer .run) ns; reals = realsRun (opened sheet b .answer .run) xs; all = opened sheet b .all; said = [] }))
-opened-calls-follow sheet ns xs b e ls = calls-follow ls _ _ (record { holds = opened-holds sheet ns xs b e .1; all = refl; said = refl })
+    → Follows (performs ls (begun (opened sheet b .answer .run) (opened sheet b .all))) (callsIn ls (begunIn sheet ns xs b))
+opened-calls-follow sheet ns xs b e ls =
+    calls-follow ls (begun (opened sheet b .answer .run) (opened sheet b .all)) (begunIn sheet ns xs b) (record { holds = opened-holds sheet ns xs b e .1; all = refl; said = refl })
+
+module _ (sheet : List ℕ) (h : Bytes sheet) (ns : List ℕ) (xs : List Float) (b : Buffers) (c : Content) (e : parse sheet ≡ accepted c) (o : openFaultIn sheet ns xs b ≡ 0) (ls : List Lent) where
+  as-performed : heldOf (callsIn ls (begunIn sheet ns xs b)) ≡ performs ls (begun (opened sheet b .answer .run) (opened sheet b .all))
+  as-performed = follows-is (performs ls (begun (opened sheet b .answer .run) (opened sheet b .all))) (callsIn ls (begunIn sheet ns xs b)) (opened-calls-follow sheet ns xs b o ls)
+
+  -- refusals, place and passes are the counter machine's, and what is shown is the uninterrupted run's, as `lists-from-sheet` says of the record
+  pub lists-under-c : ListShown (task c) (machine (task c) (lengthsOf b) ls) (heldOf (callsIn ls (begunIn sheet ns xs b)))
+  lists-under-c = rw as-performed (lists-from-sheet sheet h b c e (opened-holds sheet ns xs b o .0) ls)
+
+  -- and the parts that are handed out are its field, norms, gradients and points
+  pub handed-under-c : HandedOut (task c) (machine (task c) (lengthsOf b) ls .counter) (heldOf (callsIn ls (begunIn sheet ns xs b)) .run) (heldOf (callsIn ls (begunIn sheet ns xs b)) .all)
+  handed-under-c =
+      subst (λ (x : Held). HandedOut (task c) (machine (task c) (lengthsOf b) ls .counter) (x .run) (x .all)) (sym as-performed) (handed-from-sheet sheet h b c e (opened-holds sheet ns xs b o .0) ls)
 
 -- ---- what is handed out
 

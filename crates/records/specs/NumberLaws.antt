@@ -1,5 +1,5 @@
--- The numbers of a record and the record are inverse: what is put into lists that have the places is read as it was, and its flags are 0 or 1. Assumes nothing.
-use Prim.Native.Nat.{ℕ, _≤_}
+-- The numbers of a record and the record are inverse: what is put into lists that have the places is read as it was, with flags of 0 or 1, and what is read from lists with such flags is put as it was. Assumes nothing.
+use Prim.Native.Nat.{ℕ, zero, suc, _≤_}
 use native.Mathlib.Omega.{arith}
 use mathlib.Core.Bool.{true}
 use mathlib.Core.Path.{_≡_, refl}
@@ -8,6 +8,7 @@ use Rattle.binary64.specs.NumberLaws.{both}
 use mathlib.Core.List.{List, [], _∷_}
 use lib.Ieee.{Float}
 use lib.ListN.{length}
+use lib.Dec.{leb}
 use Rattle.work.specs.declared.Given.{Given}
 use Rattle.work.specs.declared.Mark.{Mark}
 use Rattle.work.specs.declared.Run.{Run}
@@ -72,6 +73,24 @@ unfolding fits
 put-holds r ns xs fit =
     let h = both _ _ fit in
     seventeen (λ ns. Holds r (wholesRun r ns) (realsRun r xs)) (λ n0 n1 n2 n3 n4 n5 n6 n7 n8 n9 n10 n11 n12 n13 n14 n15 n16 ns. eight (λ xs. Holds r (wholesRun r (n0 ∷ n1 ∷ n2 ∷ n3 ∷ n4 ∷ n5 ∷ n6 ∷ n7 ∷ n8 ∷ n9 ∷ n10 ∷ n11 ∷ n12 ∷ n13 ∷ n14 ∷ n15 ∷ n16 ∷ ns)) (realsRun r xs)) (λ x0 x1 x2 x3 x4 x5 x6 x7 xs. front r (r .plan .start) (r .mark) n0 n1 n2 n3 n4 n5 n6 n7 n8 n9 n10 n11 n12 n13 n14 n15 n16 ns x0 x1 x2 x3 x4 x5 x6 x7 xs) xs (leb-true _ _ (h .1))) ns (leb-true _ _ (h .0))
+
+-- ---- what is read is put as it was: no place changes, also those that a record without a start or a mark does not use
+
+same : (n0 n1 n2 n3 n4 n5 n6 n7 n8 n9 n10 n11 n12 n13 n14 n15 n16 : ℕ) (ns : List ℕ) (x0 x1 x2 x3 x4 x5 x6 x7 : Float) (xs : List Float) → flagged (n0 ∷ n1 ∷ n2 ∷ n3 ∷ n4 ∷ n5 ∷ n6 ∷ n7 ∷ n8 ∷ n9 ∷ n10 ∷ n11 ∷ n12 ∷ n13 ∷ n14 ∷ n15 ∷ n16 ∷ ns) ≡ true → (wholesRun (runFrom (n0 ∷ n1 ∷ n2 ∷ n3 ∷ n4 ∷ n5 ∷ n6 ∷ n7 ∷ n8 ∷ n9 ∷ n10 ∷ n11 ∷ n12 ∷ n13 ∷ n14 ∷ n15 ∷ n16 ∷ ns) (x0 ∷ x1 ∷ x2 ∷ x3 ∷ x4 ∷ x5 ∷ x6 ∷ x7 ∷ xs)) (n0 ∷ n1 ∷ n2 ∷ n3 ∷ n4 ∷ n5 ∷ n6 ∷ n7 ∷ n8 ∷ n9 ∷ n10 ∷ n11 ∷ n12 ∷ n13 ∷ n14 ∷ n15 ∷ n16 ∷ ns) ≡ (n0 ∷ n1 ∷ n2 ∷ n3 ∷ n4 ∷ n5 ∷ n6 ∷ n7 ∷ n8 ∷ n9 ∷ n10 ∷ n11 ∷ n12 ∷ n13 ∷ n14 ∷ n15 ∷ n16 ∷ ns)) × (realsRun (runFrom (n0 ∷ n1 ∷ n2 ∷ n3 ∷ n4 ∷ n5 ∷ n6 ∷ n7 ∷ n8 ∷ n9 ∷ n10 ∷ n11 ∷ n12 ∷ n13 ∷ n14 ∷ n15 ∷ n16 ∷ ns) (x0 ∷ x1 ∷ x2 ∷ x3 ∷ x4 ∷ x5 ∷ x6 ∷ x7 ∷ xs)) (x0 ∷ x1 ∷ x2 ∷ x3 ∷ x4 ∷ x5 ∷ x6 ∷ x7 ∷ xs) ≡ (x0 ∷ x1 ∷ x2 ∷ x3 ∷ x4 ∷ x5 ∷ x6 ∷ x7 ∷ xs))
+unfolding fits flagged givenFrom planFrom walkFrom standFrom markFrom runFrom wholesPlan wholesWalk wholesStand wholesRun realsPlan realsWalk realsStand realsRun
+same n0 n1 n2 n3 zero n5 n6 n7 n8 n9 n10 n11 n12 zero n14 n15 n16 ns x0 x1 x2 x3 x4 x5 x6 x7 xs f = (refl, refl)
+same n0 n1 n2 n3 zero n5 n6 n7 n8 n9 n10 n11 n12 (suc zero) n14 n15 n16 ns x0 x1 x2 x3 x4 x5 x6 x7 xs f = (refl, refl)
+same n0 n1 n2 n3 zero n5 n6 n7 n8 n9 n10 n11 n12 (suc (suc k)) n14 n15 n16 ns x0 x1 x2 x3 x4 x5 x6 x7 xs f = absurd (omega (arith, leb-true (suc (suc k)) 1 (both true (leb (suc (suc k)) 1) f .1)))
+same n0 n1 n2 n3 (suc zero) n5 n6 n7 n8 n9 n10 n11 n12 zero n14 n15 n16 ns x0 x1 x2 x3 x4 x5 x6 x7 xs f = (refl, refl)
+same n0 n1 n2 n3 (suc zero) n5 n6 n7 n8 n9 n10 n11 n12 (suc zero) n14 n15 n16 ns x0 x1 x2 x3 x4 x5 x6 x7 xs f = (refl, refl)
+same n0 n1 n2 n3 (suc zero) n5 n6 n7 n8 n9 n10 n11 n12 (suc (suc k)) n14 n15 n16 ns x0 x1 x2 x3 x4 x5 x6 x7 xs f = absurd (omega (arith, leb-true (suc (suc k)) 1 (both true (leb (suc (suc k)) 1) f .1)))
+same n0 n1 n2 n3 (suc (suc k)) n5 n6 n7 n8 n9 n10 n11 n12 n13 n14 n15 n16 ns x0 x1 x2 x3 x4 x5 x6 x7 xs f = absurd (omega (arith, leb-true (suc (suc k)) 1 (both (leb (suc (suc k)) 1) (leb n13 1) f .0)))
+
+pub put-same : (ns : List ℕ) (xs : List Float) → fits ns xs ≡ true → flagged ns ≡ true → (wholesRun (runFrom ns xs) ns ≡ ns) × (realsRun (runFrom ns xs) xs ≡ xs)
+unfolding fits
+put-same ns xs fit =
+    let h = both _ _ fit in
+    seventeen (λ ns. flagged ns ≡ true → (wholesRun (runFrom ns xs) ns ≡ ns) × (realsRun (runFrom ns xs) xs ≡ xs)) (λ n0 n1 n2 n3 n4 n5 n6 n7 n8 n9 n10 n11 n12 n13 n14 n15 n16 ns. eight (λ xs. flagged (n0 ∷ n1 ∷ n2 ∷ n3 ∷ n4 ∷ n5 ∷ n6 ∷ n7 ∷ n8 ∷ n9 ∷ n10 ∷ n11 ∷ n12 ∷ n13 ∷ n14 ∷ n15 ∷ n16 ∷ ns) ≡ true → (wholesRun (runFrom (n0 ∷ n1 ∷ n2 ∷ n3 ∷ n4 ∷ n5 ∷ n6 ∷ n7 ∷ n8 ∷ n9 ∷ n10 ∷ n11 ∷ n12 ∷ n13 ∷ n14 ∷ n15 ∷ n16 ∷ ns) xs) (n0 ∷ n1 ∷ n2 ∷ n3 ∷ n4 ∷ n5 ∷ n6 ∷ n7 ∷ n8 ∷ n9 ∷ n10 ∷ n11 ∷ n12 ∷ n13 ∷ n14 ∷ n15 ∷ n16 ∷ ns) ≡ (n0 ∷ n1 ∷ n2 ∷ n3 ∷ n4 ∷ n5 ∷ n6 ∷ n7 ∷ n8 ∷ n9 ∷ n10 ∷ n11 ∷ n12 ∷ n13 ∷ n14 ∷ n15 ∷ n16 ∷ ns)) × (realsRun (runFrom (n0 ∷ n1 ∷ n2 ∷ n3 ∷ n4 ∷ n5 ∷ n6 ∷ n7 ∷ n8 ∷ n9 ∷ n10 ∷ n11 ∷ n12 ∷ n13 ∷ n14 ∷ n15 ∷ n16 ∷ ns) xs) xs ≡ xs)) (λ x0 x1 x2 x3 x4 x5 x6 x7 xs. same n0 n1 n2 n3 n4 n5 n6 n7 n8 n9 n10 n11 n12 n13 n14 n15 n16 ns x0 x1 x2 x3 x4 x5 x6 x7 xs) xs (leb-true _ _ (h .1))) ns (leb-true _ _ (h .0))
 
 -- ---- what a run shows of its numbers
 
