@@ -1,4 +1,6 @@
 // The call that goes on. What is wrong is refused with a number, and then nothing has changed.
+#![tactic(auto)]
+
 ghost use Rattle.std.specs.Prelude.{◌≡◌, ◌+◌, ◌-◌, ◌≤◌, ltb};
 ghost use Rattle.model.specs.Machine as Machine;
 ghost use Rattle.work.specs.Dry.{Counts, gain};

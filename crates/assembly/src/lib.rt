@@ -1,4 +1,6 @@
 // Assembly of the matrix and the right side.
+#![tactic(auto)]
+
 ghost use Rattle.std.specs.Prelude.{◌≡◌, ◌*◌, replicate};
 ghost use Rattle.stretch.specs.Stretch.{splice};
 ghost use Rattle.laplace.specs.Mesh.{held_value};

@@ -1,4 +1,5 @@
 // Document 01's stand-ins for functions of binary64 numbers.
+#![tactic(auto)]
 
 ghost use Rattle.std.specs.Prelude.{◌≡◌};
 ghost use Rattle.binary64.specs.Number.{abs_of, clamp_of, at_least, ceil_count};

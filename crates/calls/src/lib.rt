@@ -1,4 +1,6 @@
 // The calls that go back, mark and return. What is wrong is refused with a number, and then nothing has changed.
+#![tactic(auto)]
+
 ghost use Rattle.model.specs.Machine as Machine;
 ghost use Rattle.image.specs.Calls.{buffers, Does};
 

@@ -1,5 +1,7 @@
 // The library that a controller links: the sheet and the run under C names, as include/cintrok.h declares them. A run's record is two lists of numbers (crate records), settings and a sheet's head are lists of numbers (crate heads).
 // Each function is one call; what it does is proved in the crates below.
+#![tactic(auto)]
+
 ghost use Rattle.std.specs.Prelude.{◌≡◌, get_or, set};
 ghost use Rattle.sheet.specs.Items.{vertex_in, whole_in, corners_in};
 ghost use Rattle.model.specs.Machine as Machine;

@@ -1,4 +1,6 @@
 // Conjugate gradients on vectors in one lent buffer: place 0, and one pass.
+#![tactic(auto)]
+
 ghost use Rattle.std.specs.Prelude.{◌≡◌, ◌+◌, ◌*◌, ◌≤◌, ◌<◌, length, get_or};
 ghost use mathlib.Core.List.{zip_with};
 ghost use Rattle.std.specs.Float.{nan};
@@ -10,7 +12,7 @@ ghost use Rattle.conjugate.specs.Beside as Beside;
 use sparse::Csr;
 
 // Where the vectors of a pass start.
-#[derive(Drop)]
+#[derive(Clone, Copy)]
 pub struct Vectors {
     pub x: usize,
     pub r: usize,
@@ -18,8 +20,8 @@ pub struct Vectors {
     pub product: usize,
 }
 
-// What a pass comes to: typeof.p.Ap that counts as zero; a norm below the tolerance; or the next sum of squares with its norm.
-#[derive(Drop)]
+// What a pass comes to: p·Ap that counts as zero; a norm below the tolerance; or the next sum of squares with its norm.
+#[derive(Clone, Copy)]
 pub enum Pass {
     Halted,
     Reached(f64),
@@ -59,7 +61,7 @@ fn direct(floats: &mut [f64], r: usize, p: usize, n: usize, beta: f64)
     }
 }
 
-// One pass from the vectors at `at` with rs = r·r; `tiny` is where typeof.p.Ap halts it.
+// One pass from the vectors at `at` with rs = r·r; `tiny` is where p·Ap halts it.
 pub fn one_pass(
     floats: &mut [f64],
     words: &[u32],
@@ -136,7 +138,7 @@ fn product_at(vectors: &[f64], floats: &[f64], words: &[u32], m: Csr, i: usize) 
     sparse::row_with(floats, words, m, &vectors[p..p_end], i)
 }
 
-// typeof.p.Ap.
+// p·Ap.
 fn curvature(vectors: &[f64], floats: &[f64], words: &[u32], m: Csr) -> f64
     requires { Beside.Beside words.now (length floats.now) m (length vectors.now) }
     ensures { result ≡ Vec.dot (part vectors.now (2 * m.rows) m.rows) (Beside.product_of words.now floats.now m vectors.now) }

@@ -1,4 +1,6 @@
 // Opening, the four calls and what a run shows, for callers that hold a run's record as two lists of numbers.
+#![tactic(auto)]
+
 ghost use Rattle.std.specs.Prelude.{◌≡◌, length};
 ghost use Rattle.format.specs.Sheet.{parse};
 ghost use Rattle.sheet.specs.Answer.{checked_of};

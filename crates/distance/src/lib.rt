@@ -1,4 +1,5 @@
 // Distances by their squares: what is asked of a square's root, which is taken only where the square does not tell.
+#![tactic(auto)]
 
 ghost use Rattle.std.specs.Prelude.{◌≡◌, ◌&&◌};
 ghost use Rattle.std.specs.Float.Ieee.{lt};

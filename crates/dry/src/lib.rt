@@ -1,4 +1,6 @@
 // How many places an advance would gain, with nothing written to the lent buffers: the field is solved on copies of x, r and p, and the path is followed by x and the vertices.
+#![tactic(auto)]
+
 ghost use Rattle.std.specs.Prelude.{◌≡◌, ◌+◌, ◌-◌, ◌*◌, ◌≤◌, ◌<◌, length};
 ghost use Rattle.stretch.specs.Stretch.{part, splice};
 ghost use Rattle.work.specs.Layout.{at_x, at_norms};

@@ -1,4 +1,5 @@
 // The library's functions under C names, for programs that compare them with the Rust. A point is passed as its two numbers.
+#![tactic(auto)]
 
 ghost use Rattle.std.specs.Prelude.{◌≡◌};
 ghost use Rattle.binary64.specs.Root.{root};

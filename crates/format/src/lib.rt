@@ -1,4 +1,6 @@
 // The archive's sheet format (document 01, section Sheet): what a sheet's settings are, and its numbers one by one.
+#![tactic(auto)]
+
 pub mod bytes;
 pub mod faults;
 pub mod items;
@@ -19,21 +21,21 @@ pub const MAX_ROOM: u64 = 1000000;
 pub const NO_NEIGHBOUR: u32 = 4294967295;
 
 // A setting that is a whole number.
-#[derive(Drop)]
+#[derive(Clone, Copy)]
 pub enum Whole {
     Absent,
     Given(u64),
 }
 
 // A setting that is a binary64 number.
-#[derive(Drop)]
+#[derive(Clone, Copy)]
 pub enum Real {
     Absent,
     Given(f64),
 }
 
 // The six settings; x and y are the start's.
-#[derive(Drop)]
+#[derive(Clone, Copy)]
 pub struct Settings {
     pub limit: Whole,
     pub tolerance: Real,
@@ -44,7 +46,7 @@ pub struct Settings {
 }
 
 // What an item of section 5 says.
-#[derive(Drop)]
+#[derive(Clone, Copy)]
 pub enum Setting {
     Limit(u64),
     Tolerance(f64),

@@ -1,4 +1,6 @@
 // What refuses a call: the record's counts, the lent space, and every index and count that a pass would use; and what the calls share that are not refused.
+#![tactic(auto)]
+
 ghost use Rattle.std.specs.Prelude.{◌≡◌, ◌+◌, ◌*◌, ◌≤◌, min, eqb, length};
 ghost use Rattle.binary64.specs.Number.{pick};
 ghost use Rattle.stretch.specs.Stretch.{part};

@@ -1,4 +1,6 @@
 // The gradient of the field on each triangle.
+#![tactic(auto)]
+
 ghost use Rattle.std.specs.Prelude.{◌≡◌, ◌+◌, ◌*◌, ◌≤◌, ◌<◌, length};
 ghost use Rattle.stretch.specs.Stretch.{splice};
 ghost use Rattle.gradient.specs.Gradient.{triangle_gradient};

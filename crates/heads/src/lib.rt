@@ -1,4 +1,6 @@
 // An accepted sheet's head and settings as lists of numbers, and a sheet written from them, for callers that hold no struct of Rattle's: a setting is a presence and a number.
+#![tactic(auto)]
+
 pub mod items;
 
 ghost use Rattle.std.specs.Prelude.{◌≡◌, get_or, set};

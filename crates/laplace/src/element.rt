@@ -34,7 +34,7 @@ pub fn stiffness(inv: f64, s: Slope, t: Slope) -> f64
 }
 
 // What the corners of a triangle push on each other; nothing where it is skipped, since twice its area is below `flat` in magnitude.
-#[derive(Drop)]
+#[derive(Clone, Copy)]
 pub struct Stiff {
     pub skipped: bool,
     pub ii: f64,
@@ -65,7 +65,7 @@ pub fn stiff_of(flat: f64, a: Point, b: Point, c: Point) -> Stiff
 }
 
 // What one corner pushes on each of the three.
-#[derive(Drop)]
+#[derive(Clone, Copy)]
 pub struct Side {
     pub i: f64,
     pub j: f64,
@@ -110,7 +110,7 @@ pub fn vertex_at(floats: &[f64], at: usize, n: usize, i: usize) -> Point
 }
 
 // The corners of a triangle.
-#[derive(Drop)]
+#[derive(Clone, Copy)]
 pub struct Triangle {
     pub i: u32,
     pub j: u32,

@@ -1,9 +1,11 @@
 // The field: what its assembly works on, the linear triangle and the corners of each vertex.
+#![tactic(auto)]
+
 pub mod corners;
 pub mod element;
 
 // Where the stretches of a mesh of n vertices and t triangles, of its matrix and of its right side start.
-#[derive(Drop)]
+#[derive(Clone, Copy)]
 pub struct Places {
     // In the floats: 2n coordinates, n of the right side, n of a row that is built, and 9t + n values of the matrix.
     pub vertices: usize,

@@ -1,4 +1,6 @@
 // A mesh in the lent buffers: vertices in the floats; triangles, neighbours and tags in the words.
+#![tactic(auto)]
+
 ghost use Rattle.std.specs.Prelude.{◌≡◌, ◌+◌, ◌*◌, ◌<◌, ◌≤◌, length};
 ghost use Rattle.mesh.specs.Mesh as Lists;
 ghost use Rattle.mesh.specs.Work.{vertices_of, triangles_of, neighbours_of, tags_of, Linked, Corner};
@@ -6,7 +8,7 @@ ghost use Rattle.mesh.specs.Work.{vertices_of, triangles_of, neighbours_of, tags
 use plane::Point;
 
 // How many vertices and triangles there are, and where each list starts.
-#[derive(Drop)]
+#[derive(Clone, Copy)]
 pub struct Mesh {
     pub n: usize,
     pub t: usize,
@@ -20,7 +22,7 @@ pub struct Mesh {
 pub const NONE: u32 = 4294967295;
 
 // The gradient of a corner's shape function times twice the area.
-#[derive(Drop)]
+#[derive(Clone, Copy)]
 pub struct Slope {
     pub b: f64,
     pub c: f64,

@@ -1,1 +1,2 @@
 // The uninterrupted run and the counter machine, as definitions.
+#![tactic(auto)]

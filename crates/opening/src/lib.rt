@@ -1,4 +1,6 @@
 // Opening: a sheet is checked, its content is laid out in the lent buffers, and a run of it stands at place 0.
+#![tactic(auto)]
+
 ghost use Rattle.std.specs.Prelude.{◌≡◌, ◌+◌, ◌*◌, ◌≤◌, length};
 ghost use Rattle.stretch.specs.Stretch.{splice};
 ghost use Rattle.format.specs.Content.{whole_or, real_or};

@@ -1,4 +1,6 @@
 // One pass on the lent buffers, and passes in a row.
+#![tactic(auto)]
+
 ghost use Rattle.std.specs.Prelude.{◌≡◌, true, [], ◌∷◌, ◌+◌, ◌≤◌, ◌<◌, length};
 ghost use Rattle.stretch.specs.Stretch.{splice};
 ghost use Rattle.work.specs.Memory as Memory;

@@ -1,25 +1,26 @@
 // Points of the plane and the predicates under the spiral, each operation in the order in which the Rust has it.
+#![tactic(auto)]
 
 ghost use Rattle.std.specs.Prelude.{◌≡◌, ◌||◌};
 ghost use Rattle.std.specs.Float.Ieee.{lt};
 ghost use Rattle.binary64.specs.Constants.{plus_zero};
 ghost use Rattle.plane.specs.Plane as Plane;
 
-#[derive(Drop)]
+#[derive(Clone, Copy)]
 pub struct Point {
     pub x: f64,
     pub y: f64,
 }
 
 // Where a ray meets a segment.
-#[derive(Drop)]
+#[derive(Clone, Copy)]
 pub enum Hit {
     At(Point),
     Nothing,
 }
 
 // The weights of a triangle's three corners.
-#[derive(Drop)]
+#[derive(Clone, Copy)]
 pub struct Weights {
     pub r: f64,
     pub s: f64,

@@ -1,4 +1,6 @@
 // What `spiral` prints of a sheet (document 01, Length, writer, program): the text of its run at the last place, or of the refusal.
+#![tactic(auto)]
+
 ghost use Rattle.std.specs.Prelude.{take};
 ghost use Rattle.image.specs.Calls.{buffers};
 ghost use Rattle.text.specs.Put.{Printed};

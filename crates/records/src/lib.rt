@@ -1,4 +1,6 @@
 // The record of a run as numbers, a list of 17 whole numbers and one of 8 reals, for callers that hold no struct of Rattle's: read, and put at their places.
+#![tactic(auto)]
+
 pub mod from;
 pub mod lists;
 pub mod putting;

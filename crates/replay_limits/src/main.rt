@@ -1,4 +1,6 @@
 // The limits of the printing program: sheets that use their bytes or places to the last, and sheets of one more. Prints the first line of each text, and how many bytes the text has.
+#![tactic(auto)]
+
 use format::{Real, Settings, Whole};
 use sheet::Written;
 

@@ -1,5 +1,7 @@
 // Replays a fixed list of inputs and answers (src/tables.rt): each function has to answer as the Rust did, bit for bit, where any NaN
 // counts as any other. Prints for each function how many of its rows agree.
+#![tactic(auto)]
+
 mod rows;
 mod tables;
 

@@ -5,7 +5,7 @@ ghost use Rattle.std.specs.Float.Ieee.{of_bits};
 
 use plane::{Hit, Point};
 
-#[derive(Drop)]
+#[derive(Clone, Copy)]
 pub enum Function {
     Sqrt,
     Abs,
@@ -139,7 +139,7 @@ fn sign_agrees(row: &[u64]) -> bool {
 }
 
 // The four points at the start of a row.
-#[derive(Drop)]
+#[derive(Clone, Copy)]
 struct Four {
     p: Point,
     a: Point,

@@ -1,6 +1,8 @@
 // Replays sheets with lists of calls: each is opened, its calls are made, and one line says what stands then. Standard input has for each sheet how many
 // bytes it has, its bytes, how many calls there are, and the six numbers of each call as `run::replay` takes them; a number is four bytes, the least first.
 // `compare/run --runs` writes that input, and the lines as the original Rust and the counter machine give them.
+#![tactic(auto)]
+
 mod digest;
 mod lines;
 

@@ -6,7 +6,7 @@ use format::{Settings, Whole};
 use sheet::{Checked, Header, Written};
 
 // The numbers that a content is spoiled by, 0 for none.
-#[derive(Drop)]
+#[derive(Clone, Copy)]
 struct Spoiling {
     first: u32,
     second: u32,

@@ -1,5 +1,7 @@
 // Replays a fixed list of sheets and contents (src/tables.rt). The reader has to answer each sheet as the list says, and what it accepts has to be
 // written again byte for byte; the writer has to answer each content as the list says, and to leave the buffer so. Prints for each answer how many agree.
+#![tactic(auto)]
+
 mod contents;
 mod sheets;
 mod tables;

@@ -4,7 +4,7 @@ use sheet::Checked;
 // More than the longest sheet of the list has.
 pub const SPACE: usize = 160;
 
-#[derive(Drop)]
+#[derive(Clone, Copy)]
 pub struct Counts {
     pub all: usize,
     pub agree: usize,

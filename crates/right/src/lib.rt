@@ -1,4 +1,6 @@
 // The right side: what the held vertices push on the free ones, and their own values.
+#![tactic(auto)]
+
 ghost use Rattle.std.specs.Prelude.{◌≡◌, ◌+◌, ◌*◌, ◌≤◌, ◌<◌, length, get_or, set};
 ghost use Rattle.std.specs.Float.{nan};
 ghost use Rattle.binary64.specs.Arith.{◌⊖◌, ◌⊗◌};

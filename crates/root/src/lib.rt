@@ -2,6 +2,7 @@
 // shows that it is the root. Elsewhere the root is found on bit patterns, from the guess by a
 // remainder, or digit by digit.
 // `root` is the definition; the double that it gives is the nearest one (specs/RootTheorems.antt).
+#![tactic(auto)]
 
 ghost use Rattle.std.specs.Prelude.{◌≡◌, ◌+◌, ◌*◌, ◌/◌, ◌%◌, ◌^◌, ◌<◌, ◌≤◌, true};
 ghost use Rattle.binary64.specs.Number.{pick};

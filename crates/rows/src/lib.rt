@@ -1,3 +1,5 @@
 // The matrix, row by row.
+#![tactic(auto)]
+
 pub mod matrix;
 mod row;

@@ -1,4 +1,6 @@
 // The run: opening a sheet, the four calls, and what they show.
+#![tactic(auto)]
+
 mod replaying;
 
 pub use advancing::advance;

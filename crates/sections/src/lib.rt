@@ -1,4 +1,5 @@
 // The sections of a sheet: each is tested from its count on, and its items are read through the part behind the count. A refusal is its number, 0 is none.
+#![tactic(auto)]
 
 ghost use Rattle.std.specs.Prelude.{◌≡◌, ◌+◌, ◌*◌, ◌≤◌, ◌<◌, ◌^◌, map, length};
 ghost use Rattle.std.specs.Float.{binary64};
@@ -11,7 +12,7 @@ ghost use Rattle.sections.specs.Steps.{within, items_read, mesh_fault, settings_
 use format::{Setting, Settings};
 
 // The settings of section 5, or what refuses them.
-#[derive(Drop)]
+#[derive(Clone, Copy)]
 pub enum Items {
     Read(Settings),
     Refused(u32),

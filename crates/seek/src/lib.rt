@@ -1,4 +1,6 @@
 // The way to another place: from where it is sought, what stands there, and passes up to it.
+#![tactic(auto)]
+
 ghost use Rattle.std.specs.Prelude.{◌≡◌, ◌+◌, ◌*◌, ◌≤◌, length};
 ghost use Rattle.model.specs.SolvedPlace.{solved_at};
 ghost use Rattle.work.specs.Layout.{at_norms, at_kept};

@@ -8,7 +8,7 @@ ghost use Rattle.sheet.specs.Items.{real_in, vertex_in, whole_in, corners_in};
 use plane::Point;
 
 // The corners of a triangle.
-#[derive(Drop)]
+#[derive(Clone, Copy)]
 pub struct Triple {
     pub a: u32,
     pub b: u32,

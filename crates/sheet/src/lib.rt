@@ -1,4 +1,6 @@
 // The archive's sheet (document 01, section Sheet): a sheet is checked, its items are handed out, and a sheet is written.
+#![tactic(auto)]
+
 pub mod items;
 
 ghost use Rattle.std.specs.Prelude.{◌≡◌, ◌+◌, ◌*◌, ◌≤◌, ◌<◌};
@@ -11,7 +13,7 @@ use format::Settings;
 use sections::Items;
 
 // What an accepted sheet has: n vertices, t triangles, where the items of sections 1 to 4 start, and its settings.
-#[derive(Drop)]
+#[derive(Clone, Copy)]
 pub struct Header {
     pub n: usize,
     pub t: usize,
@@ -22,14 +24,14 @@ pub struct Header {
     pub settings: Settings,
 }
 
-#[derive(Drop)]
+#[derive(Clone, Copy)]
 pub enum Checked {
     Accepted(Header),
     Refused(u32),
 }
 
 // How many bytes a sheet that was written has.
-#[derive(Drop)]
+#[derive(Clone, Copy)]
 pub enum Written {
     Bytes(usize),
     Refused(u32),

@@ -1,4 +1,6 @@
 // What a run shows: its field, norms, gradients and points as parts of the lent buffers, and the length of its path.
+#![tactic(auto)]
+
 mod parts;
 mod path;
 

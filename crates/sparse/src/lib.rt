@@ -1,4 +1,6 @@
 // A sparse matrix by rows in two lent buffers.
+#![tactic(auto)]
+
 ghost use Rattle.std.specs.Prelude.{◌≡◌, ◌+◌, ◌-◌, ◌<◌, ◌≤◌, length, get_or};
 ghost use Rattle.std.specs.Float.{nan};
 ghost use Rattle.binary64.specs.Arith.{◌⊕◌, ◌⊗◌};
@@ -9,7 +11,7 @@ ghost use Rattle.sparse.specs.Scan as Scan;
 ghost use Rattle.sparse.specs.Product as Product;
 
 // `rows` + 1 row starts from `starts` and `count` columns from `cols` in the words, `count` values from `vals` in the floats. A row start counts entries.
-#[derive(Drop)]
+#[derive(Clone, Copy)]
 pub struct Csr {
     pub starts: usize,
     pub cols: usize,

@@ -1,4 +1,6 @@
 // Document 01's printing program.
+#![tactic(auto)]
+
 fn main() {
     stream::print_input();
 }

@@ -1,4 +1,6 @@
 // Where the path starts.
+#![tactic(auto)]
+
 ghost use Rattle.std.specs.Prelude.{◌≡◌, ◌+◌, ◌<◌, ◌≤◌, length};
 ghost use Rattle.mesh.specs.Work.{vertices_of, triangles_of, neighbours_of, tags_of, Linked, Meshed};
 ghost use Rattle.stretch.specs.Stretch.{part};

@@ -1,4 +1,6 @@
 // Reads a sheet from standard input and writes what is printed of it: `print_read` says what that is.
+#![tactic(auto)]
+
 pub fn print_input() {
     let mut space = [0u8; printing::READ];
     let got = io::read_full(0, &mut space);

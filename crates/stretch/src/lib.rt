@@ -1,4 +1,6 @@
 // Kernels on stretches of one lent buffer: two parts of one `&mut` slice cannot be lent at once, so each takes the buffer and where its stretches start.
+#![tactic(auto)]
+
 ghost use Rattle.std.specs.Prelude.{◌≡◌, ◌+◌, ◌≤◌, length, replicate};
 ghost use Rattle.stretch.specs.Stretch.{part, splice, Copies};
 ghost use Rattle.stretch.specs.Vec as Vec;

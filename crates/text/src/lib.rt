@@ -1,5 +1,7 @@
 // The text that `spiral` prints (document 01, Length, writer, program), put into a lent buffer of bytes. Callers show the room.
 // Each function answers the place behind what it put.
+#![tactic(auto)]
+
 mod digits;
 mod lines;
 mod raw;

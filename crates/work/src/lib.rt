@@ -1,4 +1,6 @@
 // The work of a run in the three lent buffers: one pass, and passes in a row.
+#![tactic(auto)]
+
 pub mod layout;
 pub mod place;
 
@@ -9,14 +11,14 @@ use pde::Walk;
 use plane::Point;
 
 // A given start.
-#[derive(Drop)]
+#[derive(Clone, Copy)]
 pub enum Given {
     At(Point),
     Nothing,
 }
 
 // What a sheet says that a pass needs: its counts and settings.
-#[derive(Drop)]
+#[derive(Clone, Copy)]
 pub struct Plan {
     pub n: usize,
     pub t: usize,
@@ -28,7 +30,7 @@ pub struct Plan {
 }
 
 // The scalars of a place: how many passes led to it, r·r, how many norms there are, the field's end, where the path stands, and how many crossings were made.
-#[derive(Drop)]
+#[derive(Clone, Copy)]
 pub struct Stand {
     pub place: usize,
     pub rs: f64,
@@ -39,7 +41,7 @@ pub struct Stand {
 }
 
 // What a pass gives to be written behind what is there: nothing, a norm, or points of the path.
-#[derive(Drop)]
+#[derive(Clone, Copy)]
 pub enum Gives {
     Nothing,
     Norm(f64),
@@ -48,28 +50,28 @@ pub enum Gives {
 }
 
 // A pass: where it leads, and what it gives.
-#[derive(Drop)]
+#[derive(Clone, Copy)]
 pub struct Step {
     pub stand: Stand,
     pub gives: Gives,
 }
 
 // What is kept of a marked place beside its vectors.
-#[derive(Drop)]
+#[derive(Clone, Copy)]
 pub struct Kept {
     pub place: usize,
     pub rs: f64,
     pub norms: usize,
 }
 
-#[derive(Drop)]
+#[derive(Clone, Copy)]
 pub enum Mark {
     Nothing,
     At(Kept),
 }
 
 // From where a place is sought: on from here, from where the path started, from where the field ended, from the kept vectors, or from place 0.
-#[derive(Drop)]
+#[derive(Clone, Copy)]
 pub enum Origin {
     Here,
     Started,
@@ -79,7 +81,7 @@ pub enum Origin {
 }
 
 // The record of a run: its plan, where it stands, its mark, and how many passes advances have made.
-#[derive(Drop)]
+#[derive(Clone, Copy)]
 pub struct Run {
     pub plan: Plan,
     pub stand: Stand,
@@ -88,7 +90,7 @@ pub struct Run {
 }
 
 impl Run {
-    // typeof.p.Ap, and twice a triangle's area, count as zero below this.
+    // p·Ap, and twice a triangle's area, count as zero below this.
     pub const TINY: f64 = 1e-30;
     // A gradient is too small below this, and an exit too near up to this.
     pub const DULL: f64 = 1e-12;
