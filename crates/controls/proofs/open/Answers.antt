@@ -1,0 +1,19 @@
+-- `open` meets its contract: each way out is one law of opening. Assumes nothing.
+use mathlib.Core.Path.{◌∙◌, sym}
+use borrow.Author.Tests.{not-true, not-false}
+use Rattle.records.specs.Numbers.{fits}
+use Rattle.controls.proofs.Laws.{open-unfit, open-refused, open_made}
+use borrow.Author.Rules.{rules}
+use Rattle.controls.proofs.open.Goals as goal
+
+pub returns-then-not-fits : goal.returns-then-not-fits
+unfolding fits
+returns-then-not-fits c = open-unfit _ _ _ _ (sym c.before.before.fits2.ensures ∙ not-true _ c.if-not-fits.true) _ c.refusal_or_8.ensures
+
+pub returns-then-opened-ne0 : goal.returns-then-opened-ne0
+unfolding fits
+returns-then-opened-ne0 c = open-refused _ _ _ _ (sym c.before.before.before.before.before.before.before.before.before.before.before.before.before.fits2.ensures ∙ not-false _ c.if-not-fits.false) c.before.before.before.before.before.before.before.before.«open».ensures c.if-opened-ne0.true
+
+pub returns : goal.returns
+unfolding fits
+returns c = open_made _ _ _ _ (sym c.before.before.before.before.before.before.before.before.before.before.before.before.before.before.before.before.before.before.before.before.before.fits2.ensures ∙ not-false _ c.if-not-fits.false) c.before.before.before.before.before.before.before.before.before.before.before.before.before.before.before.before.«open».ensures c.if-opened-ne0.false _ _ c.put_run.ensures.0 c.put_run.ensures.1

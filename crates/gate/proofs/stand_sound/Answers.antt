@@ -1,0 +1,14 @@
+-- `gate::stand_sound` meets its contract: its test is the one of the definition, with what `farthest` and `norms_most` ensure. Assumes nothing.
+use borrow.Author.Rules.{rules}
+use Rattle.image.specs.Calls.{stand_sound}
+use Rattle.gate.proofs.stand_sound.Goals as goal
+
+pub farthest-far-requires : goal.farthest-far-requires
+farthest-far-requires c = let h : _ = c.requires in h
+
+pub returns : goal.returns
+unfolding stand_sound
+returns c =
+    let far : _ = c.farthest-far.ensures in
+    let most : _ = c.norms_most-norms.ensures in
+    rw (far, most)

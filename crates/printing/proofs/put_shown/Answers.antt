@@ -1,0 +1,14 @@
+-- `put_shown` meets its contract: no list is longer than its buffer. Assumes nothing.
+use borrow.Author.Rules.{rules}
+use Rattle.printing.proofs.LawsText.{shown_room, shown-put}
+use Rattle.printing.proofs.put_shown.Goals as goal
+
+pub put_run-requires : goal.put_run-requires
+put_run-requires c =
+    let a = c.args in
+    shown_room a.run a.floats.now a.path.now a.out.now _ _ _ _ c.field-us.ensures c.norms-rs.ensures c.gradients-gs.ensures c.points-ps.ensures c.requires
+
+pub returns : goal.returns
+returns c =
+    let a = c.args in
+    shown-put a.run a.floats.now a.path.now _ _ _ _ c.field-us.ensures c.norms-rs.ensures c.gradients-gs.ensures c.points-ps.ensures c.put_run.ensures

@@ -1,0 +1,9 @@
+-- `put_mark` meets its contract, by what there is. Assumes nothing.
+use borrow.Author.Rules.{rules}
+use Rattle.records.proofs.putting.put_mark.Goals as goal
+
+pub returns-in-Nothing : goal.returns-in-Nothing
+returns-in-Nothing c = (rw (c.enum_told-1.given.1, c.put.ensures), rw c.enum_told-1.given.1)
+
+pub returns-in-At : goal.returns-in-At
+returns-in-At c = (rw (c.mark-1.given.1, c.put-in-At-3.ensures, c.put-in-At-2.ensures, c.put-in-At.ensures), rw (c.mark-1.given.1, c.put_float.ensures))

@@ -1,0 +1,16 @@
+-- `rows::pattern` meets its contract: past its test the number is no NaN, so it has a pattern. Assumes nothing.
+use mathlib.Core.Path.{◌≡◌, subst}
+use mathlib.Core.Bool.{false, not}
+use lib.Dec.{T}
+use lib.Ieee.{Float, nan, inf, fin, is_nan, ne}
+use borrow.Author.Rules.{rules}
+use Rattle.replay_numbers.proofs.rows.pattern.Goals as goal
+
+no_nan : (x : Float) → ne x x ≡ false → T (not (is_nan x))
+unfolding is_nan ne
+no_nan nan e = subst T e tt
+no_nan (inf s) e = tt
+no_nan (fin s m e) h = tt
+
+pub float_to_bits-result : goal.float_to_bits-result
+float_to_bits-result c = no_nan c.args.x c.if-x.false

@@ -1,0 +1,53 @@
+-- `root::digit_root` meets its contract. The invariant is `Partial`: the root so far is that of the digits brought down, and the remainder what its square leaves of them.
+-- A turn is `partial-one` or `partial-zero`, by the test, and after 54 turns no digit is left. Assumes nothing.
+use Rattle.std.proofs.Common.{◌≡◌, ◌-◌, ◌^◌, ◌<◌, ◌≤◌, refl, ⊎_elim, arith}
+use Rattle.binary64.proofs.WholeRoot.{Partial, partial_none, partial_small, partial-zero, partial-one, partial_done}
+use Rattle.root.proofs.digit_root.Goals as goal
+use Rattle.root.proofs.digit_root.Goals.{In-loop-i}
+
+pub loop-i-init : goal.loop-i-init
+loop-i-init c = (omega arith, partial_none _ c.requires)
+
+-- the root before a turn has at most 53 digits
+small : (c : In-loop-i) → c.loop-i.root < 2 ^ 53
+small c = let l = c.loop-i.invariant in partial_small l.1 c.loop-i-test.true
+
+pub overflow_mul-remainder : goal.overflow_mul-remainder
+overflow_mul-remainder c = let s = small c in omega arith
+
+pub overflow_add-remainder : goal.overflow_add-remainder
+overflow_add-remainder c = let s = small c in omega arith
+
+pub overflow_mul-rest : goal.overflow_mul-rest
+overflow_mul-rest c = omega arith
+
+pub overflow_mul-trial : goal.overflow_mul-trial
+overflow_mul-trial c = let s = small c in omega arith
+
+pub overflow_add-trial : goal.overflow_add-trial
+overflow_add-trial c = let s = small c in omega arith
+
+pub overflow_mul-root : goal.overflow_mul-root
+overflow_mul-root c = let s = small c in omega arith
+
+pub overflow_add-root : goal.overflow_add-root
+overflow_add-root c = let s = small c.before in omega arith
+
+pub overflow_add-i : goal.overflow_add-i
+overflow_add-i c = omega arith
+
+pub loop-i-smaller : goal.loop-i-smaller
+loop-i-smaller c = omega arith
+
+pub loop-i-preserved : goal.loop-i-preserved
+loop-i-preserved c =
+    let l = c.loop-i in (
+      omega arith,
+      ⊎_elim
+          (λ w. partial-one _ _ _ _ _ l.invariant.1 _ _ _ refl (omega arith) (omega arith))
+          (λ w. partial-zero _ _ _ _ _ l.invariant.1 _ _ _ refl (omega arith) (omega arith) (omega arith))
+          c.if-trial-remainder.branch,
+    )
+
+pub returns : goal.returns
+returns c = let e : c.loop-i.i ≡ 54 = omega arith in partial_done c.requires (rw e at c.loop-i.invariant.1)

@@ -1,0 +1,22 @@
+-- `root::is_root` meets its contract: the pattern is that of the exponent's half and of q + 1, which is nearest where the tests say yes (`next-is`). Assumes nothing.
+use Rattle.std.proofs.Common.{◌≡◌, ℕ, ◌+◌, ◌-◌, ◌*◌, ◌/◌, ◌^◌, ◌<◌, ◌≤◌, true, ◌&&◌, ltb, leb, sym, ◌∙◌, arith, rules, ltb-true, leb-true}
+use mathlib.Core.Bool.{false≢true, and-eq-true_iff}
+use Rattle.binary64.proofs.RootGuess.{next-is}
+use Rattle.binary64.proofs.RootLaws.{pattern_is}
+use Rattle.root.proofs.is_root.Goals as goal
+
+-- what the two tests tell
+told : (q rest most : ℕ) → (ltb q rest && leb rest most) ≡ true → (q < rest) × (rest ≤ most)
+told q rest most e = let both = (and-eq-true_iff (ltb q rest) (leb rest most)).0 e in (ltb-true q rest both.0, leb-true rest most both.1)
+
+pub returns-then-q : goal.returns-then-q
+returns-then-q c = λ e. absurd (false≢true e)
+
+pub returns : goal.returns
+returns c =
+    let operand = c.operand_of-operand in
+    let q = c.wrapping_sub_u64-q.result in
+    let rest = c.remainder-rest.result in
+    let t = told q rest _ e in
+    let p : c.args.pattern ≡ (c.args.g / 2 - 1) * 2 ^ 52 + (q + 1) = omega arith in
+    sym (p ∙ pattern_is c.args.g c.args.m operand.result (q + 1) operand.ensures.0 (next-is operand.result q rest operand.ensures.1 (c.remainder-rest.ensures (omega arith)) (omega arith) (omega arith)))

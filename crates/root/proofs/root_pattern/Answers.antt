@@ -1,0 +1,12 @@
+-- `root::root_pattern` meets its contract: `nearest_root` gives the operand's root, whatever was guessed. Assumes nothing.
+use Rattle.std.proofs.Common.{◌*◌, ◌^◌, arith, rules}
+use Rattle.binary64.proofs.WholeRoot.{whole_root-lt}
+use Rattle.binary64.proofs.RootLaws.{pattern_is}
+use Rattle.root.proofs.root_pattern.Goals as goal
+
+pub overflow_add-result : goal.overflow_add-result
+overflow_add-result c = omega (arith, c.nearest_root.ensures, whole_root-lt 54 (c.operand_of-operand.result * 2 ^ 54))
+
+pub returns : goal.returns
+returns c =
+    pattern_is c.args.g c.args.m c.operand_of-operand.result c.nearest_root.result c.operand_of-operand.ensures.0 c.nearest_root.ensures

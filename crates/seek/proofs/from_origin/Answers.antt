@@ -1,0 +1,20 @@
+-- `from_origin` meets its contract: each way is its own function's. Assumes nothing.
+use mathlib.Core.Path.{refl}
+use Rattle.seek.proofs.LawsSeek.{from-here, from-started, from-solved, from-kept, from_zero}
+use borrow.Author.Rules.{rules}
+use Rattle.seek.proofs.from_origin.Goals as goal
+
+pub returns-in-Here : goal.returns-in-Here
+returns-in-Here c = from-here _ _ _ _ _ _ _ c.enum_told-1.given.1 refl refl refl
+
+pub returns-in-Started : goal.returns-in-Started
+returns-in-Started c = from-started _ _ _ _ _ _ _ c.enum_told-in-Started-1.given.1 c.to_started.ensures
+
+pub returns-in-Solved : goal.returns-in-Solved
+returns-in-Solved c = from-solved _ _ _ _ _ _ _ c.enum_told-in-Solved-1.given.1 c.to_solved.ensures
+
+pub returns-in-Kept : goal.returns-in-Kept
+returns-in-Kept c = from-kept _ _ _ _ _ _ _ _ c.o-1.given.1 c.to_kept.ensures
+
+pub returns-in-Zero : goal.returns-in-Zero
+returns-in-Zero c = from_zero _ _ _ _ _ _ _ c.enum_told-in-Zero-1.given.1 c.to_zero.ensures

@@ -1,0 +1,63 @@
+-- `writing::putting::put_bytes` meets its contract: the count is put down, and the numbers behind it one by one.
+-- Assumes nothing.
+use native.Mathlib.Omega.{arith}
+use mathlib.Core.Path.{◌≡◌, ap, ◌∙◌}
+use Prim.Native.Nat.{ℕ, ◌+◌, ◌-◌}
+use lib.ListN.{length, get_or}
+use Rattle.format.specs.Place.{placed}
+use Rattle.format.specs.PlaceLaws.{length-placed}
+use Rattle.writing.proofs.Puts.{Down, down-none, down-more, section_down, section-same, byte_put}
+use Rattle.writing.proofs.putting.put_bytes.Goals as goal
+
+pub put_u32-requires : goal.put_u32-requires
+put_u32-requires c = omega arith
+
+pub loop-i-init : goal.loop-i-init
+loop-i-init c = down-none _ _ _ _ _
+
+pub bounds-xs-i : goal.bounds-xs-i
+bounds-xs-i c = omega arith
+
+pub overflow_add-out : goal.overflow_add-out
+overflow_add-out c =
+    let a = c.args in
+    let e : length c.put_u32.new.0 ≡ length a.out.now = ap length c.put_u32.ensures ∙ length-placed a.out.now a.at _ in
+    omega arith
+
+pub overflow_add-out-in-loop-i : goal.overflow_add-out-in-loop-i
+overflow_add-out-in-loop-i c =
+    let a = c.args in
+    let e : length c.put_u32.new.0 ≡ length a.out.now = ap length c.put_u32.ensures ∙ length-placed a.out.now a.at _ in
+    omega arith
+
+pub bounds-out-at : goal.bounds-out-at
+bounds-out-at c =
+    let a = c.args in
+    let e : length c.put_u32.new.0 ≡ length a.out.now = ap length c.put_u32.ensures ∙ length-placed a.out.now a.at _ in
+    let l = c.loop-i in
+    omega arith
+
+pub overflow_add-i : goal.overflow_add-i
+overflow_add-i c = omega arith
+
+pub loop-i-smaller : goal.loop-i-smaller
+loop-i-smaller c = omega arith
+
+pub loop-i-preserved : goal.loop-i-preserved
+loop-i-preserved c =
+    let l = c.loop-i in
+    let a = c.args in
+    let x = get_or a.xs.now l.i 0 in
+    down-more _ _ _ _ _ 0 l.i (a.at + 4 + l.i) l.out _ l.invariant c.loop-i-test.true (omega arith) (byte_put l.out (a.at + 4 + l.i) x (c.shared_slice_known-in-loop-i-1.given l.i).fits)
+
+pub shape_of-out : goal.shape_of-out
+shape_of-out c =
+    let a = c.args in
+    let e : length c.put_u32.new.0 ≡ length a.out.now = ap length c.put_u32.ensures ∙ length-placed a.out.now a.at _ in
+    omega arith
+
+pub returns : goal.returns
+returns c =
+    let a = c.args in
+    section_down _ _ a.out.now _ a.at a.n _ _ _ c.put_u32.ensures c.loop-i.invariant c.loop-i-test.false
+    ∙ ap (placed a.out.now a.at) (section-same 1 a.n a.xs.now)
