@@ -89,11 +89,15 @@ module _ (q m : ℕ) (e : ℤ) where
 
   below : (b : Float) → HasValue b false q 1 → lt b (fin false m e) ≡ true → q * down e < m * up e
   unfolding lt
+  below nan v h = elim v [ ]
+  below (inf _) v h = elim v [ ]
   below (fin true n g) v h = absurd (true≢false v.0)
   below (fin false n g) v h = lt_of_mul-lt-mul_right (down g) (rw (← times (n * up g) (down g) (down e) v.1) (ltb-true _ _ h))
 
   reaches : (b : Float) → HasValue b false q 1 → lt b (fin false m e) ≡ false → m * up e ≤ q * down e
   unfolding lt
+  reaches nan v h = elim v [ ]
+  reaches (inf _) v h = elim v [ ]
   reaches (fin true n g) v h = absurd (true≢false v.0)
   reaches (fin false n g) v h = le_of_mul-le-mul_right (rw (← times (n * up g) (down g) (down e) v.1) (ltb-false _ _ h)) (down_pos g)
 

@@ -1,6 +1,6 @@
 -- A turn of each scan. Assumes nothing.
 use mathlib.Core.Path.{◌≡◌, refl, sym}
-use mathlib.Core.Bool.{Bool, true, ◌&&◌, and_true, and_assoc}
+use mathlib.Core.Bool.{Bool, true, ◌&&◌, and-true, and_assoc}
 use mathlib.Core.List.{List, [], ◌∷◌, ◌++◌}
 use Prim.Native.Nat.{ℕ, suc, ◌+◌, ◌-◌, ◌<◌}
 use native.Mathlib.Nat.{add-zero}
@@ -16,7 +16,7 @@ use Rattle.sparse.specs.Scan.{all_below, rises_from, rises}
 
 all_below_snoc : (n : ℕ) (ws : List ℕ) (w : ℕ) → all_below n (ws ++ (w ∷ [])) ≡ (all_below n ws && ltb w n)
 unfolding all_below
-all_below_snoc n [] w = and_true (ltb w n)
+all_below_snoc n [] w = and-true (ltb w n)
 all_below_snoc n (v ∷ ws) w = rw (all_below_snoc n ws w) (sym (and_assoc (ltb v n) (all_below n ws) (ltb w n)))
 
 pub below_none : (words : List ℕ) (at n : ℕ) → true ≡ all_below n (part words at 0)

@@ -11,7 +11,8 @@ held : (c : Start) → T (fits binary64 c.args.x)
 held c = subst T (sym c.well_formed.0.1) tt
 
 pub truncating_f64_to_u64-whole-requires : goal.truncating_f64_to_u64-whole-requires
-truncating_f64_to_u64-whole-requires c = cuttable _ c.if-x.true c.if-x-2.true
+truncating_f64_to_u64-whole-requires c =
+    let k = cuttable _ c.if-x.true c.if-x-2.true in record { lower_bound = k.0; upper_bound = k.1 }
 
 -- below 2^64, with a fraction
 more : (c : Then-nearest_u64_to_f64-x) → (c.truncating_f64_to_u64-whole.result < 2 ^ 53) × (c.truncating_f64_to_u64-whole.result + 1 ≡ ceil_count c.args.x)

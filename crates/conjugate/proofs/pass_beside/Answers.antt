@@ -5,12 +5,12 @@ use Rattle.conjugate.proofs.pass_beside.Goals as goal
 
 pub returns-then-abs-tiny : goal.returns-then-abs-tiny
 returns-then-abs-tiny c =
-    halts _ start.args.floats.now _ _ start.requires _ _ _ _ c.curvature-pap.ensures (rw c.abs.ensures at c.if-abs-tiny.true)
+    halts _ c.args.floats.now _ _ c.requires _ _ _ _ c.curvature-pap.ensures (rw c.abs.ensures at c.if-abs-tiny.true)
 
 pub returns-then-norm-tolerance : goal.returns-then-norm-tolerance
 returns-then-norm-tolerance c =
-    reaches _ start.args.floats.now _ _ start.requires _ _ _ _ c.curvature-pap.ensures _ _ c.step_beside-square.ensures _ c.sqrt-norm.ensures (rw c.abs.ensures at c.if-abs-tiny.false) c.if-norm-tolerance.true
+    reaches _ c.args.floats.now _ _ c.requires _ _ _ _ c.curvature-pap.ensures _ _ c.step_beside-square.ensures _ c.sqrt-norm.ensures (rw c.abs.ensures at c.if-abs-tiny.false) c.if-norm-tolerance.true
 
 pub returns : goal.returns
 returns c =
-    moves _ start.args.floats.now _ _ start.requires _ _ _ _ c.curvature-pap.ensures _ _ c.step_beside-square.ensures _ c.sqrt-norm.ensures (rw c.abs.ensures at c.if-abs-tiny.false) _ c.direct.ensures c.if-norm-tolerance.false
+    moves _ c.args.floats.now _ _ c.requires _ _ _ _ c.curvature-pap.ensures _ _ c.step_beside-square.ensures _ c.sqrt-norm.ensures (rw c.abs.ensures at c.if-abs-tiny.false) _ c.direct.ensures c.if-norm-tolerance.false

@@ -13,14 +13,14 @@ loop-i-init c = (omega arith, refl, step_none _ c.args.floats.now _ c.args.vecto
 
 pub product_at-q-requires : goal.product_at-q-requires
 product_at-q-requires c =
-    (step-beside _ start.args.floats.now _ start.args.vectors.now start.requires _ _ _ _ c.loop-i-test.true c.loop-i.invariant.2, c.loop-i-test.true)
+    (step-beside _ c.args.floats.now _ c.args.vectors.now c.requires _ _ _ _ c.loop-i-test.true c.loop-i.invariant.2, c.loop-i-test.true)
 
 pub bounds-vectors-b-in-loop-i : goal.bounds-vectors-b-in-loop-i
 bounds-vectors-b-in-loop-i c = simp length-set (omega arith)
 
 pub loop-i-preserved : goal.loop-i-preserved
 loop-i-preserved c =
-    (omega arith, simp length-set (omega arith), step-turn _ start.args.floats.now _ start.args.vectors.now start.requires _ _ _ _ c.loop-i-test.true c.loop-i.invariant.2 _ _ _ c.product_at-q.ensures refl refl)
+    (omega arith, simp length-set (omega arith), step-turn _ c.args.floats.now _ c.args.vectors.now c.requires _ _ _ _ c.loop-i-test.true c.loop-i.invariant.2 _ _ _ c.product_at-q.ensures refl refl)
 
 pub returns : goal.returns
 returns c = let done : c.loop-i.i ≡ c.args.m.rows = omega arith in rw done at c.loop-i.invariant.2

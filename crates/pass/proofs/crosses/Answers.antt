@@ -12,4 +12,4 @@ returns c = λ e. record {
   unended = c.requires;
   solved = c.if-stand-eq0.false;
   some = λ z. true≢false (sym e ∙ rw (eq-eqb _ _ z) refl);
-returns c =
+}

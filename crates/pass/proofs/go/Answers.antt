@@ -22,7 +22,7 @@ returns-then-walk-ne0 c = goes-ended _ _ _ _ _ _ _ _ c.loop-i.invariant.5 (searc
 pub cross_on-requires : goal.cross_on-requires
 cross_on-requires c =
     let turn = c.loop-i in
-    (search rules, search rules, omega (arith, start.requires.2, turn.invariant.4, turn.invariant.0), search rules, c.crosses.ensures c.if-crosses.true)
+    (search rules, search rules, omega (arith, c.requires.2, turn.invariant.4, turn.invariant.0), search rules, c.crosses.ensures c.if-crosses.true)
 
 pub returns-then-crosses : goal.returns-then-crosses
 returns-then-crosses c =

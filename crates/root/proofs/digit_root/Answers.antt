@@ -3,7 +3,7 @@
 use Rattle.std.proofs.Common.{◌≡◌, ◌-◌, ◌^◌, ◌<◌, ◌≤◌, refl, ⊎_elim, arith}
 use Rattle.binary64.proofs.WholeRoot.{Partial, partial_none, partial_small, partial-zero, partial-one, partial_done}
 use Rattle.root.proofs.digit_root.Goals as goal
-use Rattle.root.proofs.digit_root.Goals.{In-loop-i}
+use Rattle.root.proofs.digit_root.Goals.{In-loop-i, then-trial-remainder, else-trial-remainder}
 
 pub loop-i-init : goal.loop-i-init
 loop-i-init c = (omega arith, partial_none _ c.requires)
@@ -43,10 +43,10 @@ pub loop-i-preserved : goal.loop-i-preserved
 loop-i-preserved c =
     let l = c.loop-i in (
       omega arith,
-      ⊎_elim
-          (λ w. partial-one _ _ _ _ _ l.invariant.1 _ _ _ refl (omega arith) (omega arith))
-          (λ w. partial-zero _ _ _ _ _ l.invariant.1 _ _ _ refl (omega arith) (omega arith) (omega arith))
-          c.if-trial-remainder.branch,
+      elim c.if-trial-remainder.branch [
+        | then-trial-remainder w ↦ partial-one _ _ _ _ _ l.invariant.1 _ _ _ refl (omega arith) (omega arith)
+        | else-trial-remainder w ↦ partial-zero _ _ _ _ _ l.invariant.1 _ _ _ refl (omega arith) (omega arith) (omega arith)
+      ],
     )
 
 pub returns : goal.returns

@@ -13,7 +13,7 @@ pub returns-then-q : goal.returns-then-q
 returns-then-q c = λ e. absurd (false≢true e)
 
 pub returns : goal.returns
-returns c =
+returns c = λ e.
     let operand = c.operand_of-operand in
     let q = c.wrapping_sub_u64-q.result in
     let rest = c.remainder-rest.result in

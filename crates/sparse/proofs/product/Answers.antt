@@ -13,11 +13,11 @@ loop-i-init c = (omega arith, refl, rows_none _ _ _ _ _ _ c.wide-from.ensures)
 pub row_at-y-requires : goal.row_at-y-requires
 row_at-y-requires c =
     let inv = c.loop-i.invariant in
-    for_row _ _ _ _ _ _ _ _ _ start.requires inv.1 c.loop-i-test.true inv.2.from_is c.before.end_of_lem.ensures
+    for_row _ _ _ _ _ _ _ _ _ c.requires inv.1 c.loop-i-test.true inv.2.from_is c.end_of-to.ensures
 
 pub loop-i-preserved : goal.loop-i-preserved
 loop-i-preserved c =
-    (omega arith, search rules, rw c.element_of.ensures (rows_step _ _ _ _ _ _ _ _ _ _ _ start.requires c.loop-i-test.true c.loop-i.invariant.2 c.before.before.before.before.end_of_lem.ensures c.row_at-y.ensures))
+    (omega arith, search rules, rw c.element_of.ensures (rows_step _ _ _ _ _ _ _ _ _ _ _ c.requires c.loop-i-test.true c.loop-i.invariant.2 c.end_of-to.ensures c.row_at-y.ensures))
 
 pub returns : goal.returns
 returns c = rows_done _ _ _ _ _ _ _ _ _ (omega arith) c.loop-i.invariant.2

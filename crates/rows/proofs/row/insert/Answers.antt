@@ -9,50 +9,50 @@ use Rattle.rows.proofs.row.insert.Goals as goal
 pub bounds-floats-a : goal.bounds-floats-a
 bounds-floats-a c =
     let pos = c.position-p.ensures in
-    let h : c.position-p.result < start.args.k = stands_below _ _ _ _ c.stands.ensures c.if-stands.true in
-    omega (arith, start.requires)
+    let h : c.position-p.result < c.args.k = stands_below _ _ _ _ c.stands.ensures c.if-stands.true in
+    omega (arith, c.requires)
 
 pub bounds-floats-a-then-stands : goal.bounds-floats-a-then-stands
 bounds-floats-a-then-stands c =
     let pos = c.position-p.ensures in
-    let h : c.position-p.result < start.args.k = stands_below _ _ _ _ c.stands.ensures c.if-stands.true in
-    omega (arith, start.requires)
+    let h : c.position-p.result < c.args.k = stands_below _ _ _ _ c.stands.ensures c.if-stands.true in
+    omega (arith, c.requires)
 
 pub returns-then-stands : goal.returns-then-stands
 returns-then-stands c =
     let pos = c.position-p.ensures in
-    written-repeat _ _ _ _ _ _ _ start.requires.floats-now start.requires.words-now _ pos.0 _ c.stands.ensures c.if-stands.true
+    written-repeat _ _ _ _ _ _ _ c.requires.floats-now c.requires.words-now _ pos.0 _ c.stands.ensures c.if-stands.true
 
 pub shift-requires : goal.shift-requires
 shift-requires c =
     let pos = c.position-p.ensures in
-    let l : (start.args.f + start.args.k < length start.args.floats.now) × (start.args.c + start.args.k < length start.args.words.now) =
-    fresh-room _ _ _ _ _ _ _ start.requires.floats-now start.requires.words-now _ pos.0 _ c.stands.ensures c.if-stands.false pos.1 start.requires in
+    let l : (c.args.f + c.args.k < length c.args.floats.now) × (c.args.c + c.args.k < length c.args.words.now) =
+    fresh-room _ _ _ _ _ _ _ c.requires.floats-now c.requires.words-now _ pos.0 _ c.stands.ensures c.if-stands.false pos.1 c.requires in
     omega arith
 
 pub shift_words-requires : goal.shift_words-requires
 shift_words-requires c =
     let pos = c.position-p.ensures in
-    let l : (start.args.f + start.args.k < length start.args.floats.now) × (start.args.c + start.args.k < length start.args.words.now) =
-    fresh-room _ _ _ _ _ _ _ start.requires.floats-now start.requires.words-now _ pos.0 _ c.stands.ensures c.if-stands.false pos.1 start.requires in
+    let l : (c.args.f + c.args.k < length c.args.floats.now) × (c.args.c + c.args.k < length c.args.words.now) =
+    fresh-room _ _ _ _ _ _ _ c.requires.floats-now c.requires.words-now _ pos.0 _ c.stands.ensures c.if-stands.false pos.1 c.requires in
     omega arith
 
 pub bounds-floats-a-2 : goal.bounds-floats-a-2
 bounds-floats-a-2 c =
     let pos = c.position-p.ensures in
-    let l : (start.args.f + start.args.k < length start.args.floats.now) × (start.args.c + start.args.k < length start.args.words.now) =
-    fresh-room _ _ _ _ _ _ _ start.requires.floats-now start.requires.words-now _ pos.0 _ c.stands.ensures c.if-stands.false pos.1 start.requires in
+    let l : (c.args.f + c.args.k < length c.args.floats.now) × (c.args.c + c.args.k < length c.args.words.now) =
+    fresh-room _ _ _ _ _ _ _ c.requires.floats-now c.requires.words-now _ pos.0 _ c.stands.ensures c.if-stands.false pos.1 c.requires in
     omega (arith, c.shift.auto.0)
 
 pub bounds-words-b : goal.bounds-words-b
 bounds-words-b c =
     let pos = c.position-p.ensures in
-    let l : (start.args.f + start.args.k < length start.args.floats.now) × (start.args.c + start.args.k < length start.args.words.now) =
-    fresh-room _ _ _ _ _ _ _ start.requires.floats-now start.requires.words-now _ pos.0 _ c.stands.ensures c.if-stands.false pos.1 start.requires in
+    let l : (c.args.f + c.args.k < length c.args.floats.now) × (c.args.c + c.args.k < length c.args.words.now) =
+    fresh-room _ _ _ _ _ _ _ c.requires.floats-now c.requires.words-now _ pos.0 _ c.stands.ensures c.if-stands.false pos.1 c.requires in
     omega (arith, c.shift_words.auto.0)
 
 pub returns : goal.returns
 returns c =
     let pos = c.position-p.ensures in
     rw (c.shift.ensures, c.shift_words.ensures)
-    (written-fresh _ _ _ _ _ _ _ start.requires.floats-now start.requires.words-now _ pos.0 _ c.stands.ensures c.if-stands.false pos.1)
+    (written-fresh _ _ _ _ _ _ _ c.requires.floats-now c.requires.words-now _ pos.0 _ c.stands.ensures c.if-stands.false pos.1)

@@ -12,4 +12,4 @@ pub returns-in-Above : goal.returns-in-Above
 returns-in-Above c = rw c.enum_told-in-Above-1.given.1 c.with_points-in-Above.ensures
 
 pub returns-in-Into : goal.returns-in-Into
-returns-in-Into c = rw (c.b-1.given.1, c.before.end_of_lem.ensures)
+returns-in-Into c = rw (c.b-1.given.1, c.end_of-end.ensures)
