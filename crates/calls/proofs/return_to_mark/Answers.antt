@@ -13,18 +13,18 @@ returns-in_default c =
     let a = c.args in
     let b = buffers a.floats.now a.words.now a.path.now in
     let z = cleared a.run b c.held_fault-early.ensures c.if-early-ne0.false in
-    return-late a.run b z _ c.enum_told-1.given.1 c.say-in_default.ensures
+    return-late a.run b z _ c.in_default.is c.say-in_default.ensures
 
 pub seek-stand-requires : goal.seek-stand-requires
 seek-stand-requires c =
     let a = c.args in
     let b = buffers a.floats.now a.words.now a.path.now in
     let i = admitted a.run b c.held_fault-early.ensures c.if-early-ne0.false in
-    (i, (rw c.kept-1.given.1 at i.mark-in).0)
+    (i, (rw c.in-At.is at i.mark-in).0)
 
 pub returns : goal.returns
 returns c =
     let a = c.args in
     let b = buffers a.floats.now a.words.now a.path.now in
     let z = cleared a.run b c.held_fault-early.ensures c.if-early-ne0.false in
-    return-done a.run b z _ _ _ _ _ c.moved-returned.ensures c.say-2.ensures _ c.kept-1.given.1 c.seek-stand.ensures
+    return-done a.run b z _ _ _ _ _ c.moved-returned.ensures c.say-2.ensures _ c.in-At.is c.seek-stand.ensures

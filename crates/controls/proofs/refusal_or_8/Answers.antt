@@ -5,7 +5,7 @@ use borrow.Author.Rules.{rules}
 use Rattle.controls.proofs.refusal_or_8.Goals as goal
 
 pub returns-in-Refused : goal.returns-in-Refused
-returns-in-Refused c = ap refusal_or8 (sym c.checked-1.given.1 ∙ c.check_sheet-checked.ensures)
+returns-in-Refused c = ap refusal_or8 (sym c.in-Refused.is ∙ c.check_sheet-checked.ensures)
 
 pub returns-in-Accepted : goal.returns-in-Accepted
-returns-in-Accepted c = ap refusal_or8 (sym c.enum_told-1.given.1 ∙ c.check_sheet-checked.ensures)
+returns-in-Accepted c = ap refusal_or8 (sym c.in-Accepted.is ∙ c.check_sheet-checked.ensures)

@@ -8,7 +8,7 @@ pub returns-then-out-lt2 : goal.returns-then-out-lt2
 returns-then-out-lt2 c = too_short c.if-out-lt2.true
 
 pub returns-in_default : goal.returns-in_default
-returns-in_default c = rw (sym c.get_ray_line_intersection-hit.ensures ∙ c.enum_told-1.given.1) (put-there c.if-out-lt2.false)
+returns-in_default c = rw (sym c.get_ray_line_intersection-hit.ensures ∙ c.in_default.is) (put-there c.if-out-lt2.false)
 
 pub returns : goal.returns
-returns c = rw (sym c.get_ray_line_intersection-hit.ensures ∙ c.hit-1.given.1) (put-there c.if-out-lt2.false)
+returns c = rw (sym c.get_ray_line_intersection-hit.ensures ∙ c.in-At.is) (put-there c.if-out-lt2.false)

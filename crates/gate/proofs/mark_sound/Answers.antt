@@ -5,8 +5,8 @@ use Rattle.gate.proofs.mark_sound.Goals as goal
 
 pub returns-in-Nothing : goal.returns-in-Nothing
 unfolding mark_sound
-returns-in-Nothing c = rw c.enum_told-1.given.1
+returns-in-Nothing c = rw c.in-Nothing.is
 
 pub returns-in-At : goal.returns-in-At
 unfolding mark_sound
-returns-in-At c = rw (c.mark-1.given.1, c.farthest.ensures)
+returns-in-At c = rw (c.in-At.is, c.farthest.ensures)

@@ -3,7 +3,7 @@ use borrow.Author.Rules.{rules}
 use Rattle.heads.proofs.put_whole.Goals as goal
 
 pub returns-in-Absent : goal.returns-in-Absent
-returns-in-Absent c = rw (c.enum_told-1.given.1, c.put.ensures)
+returns-in-Absent c = rw (c.in-Absent.is, c.put.ensures)
 
 pub returns-in-Given : goal.returns-in-Given
-returns-in-Given c = rw (c.w-1.given.1, c.put-in-Given-2.ensures, c.put-in-Given.ensures)
+returns-in-Given c = rw (c.in-Given.is, c.put-in-Given-2.ensures, c.put-in-Given.ensures)

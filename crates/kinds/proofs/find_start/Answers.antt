@@ -4,7 +4,7 @@ use borrow.Author.Rules.{rules}
 use Rattle.kinds.proofs.find_start.Goals as goal
 
 pub returns-in-At : goal.returns-in-At
-returns-in-At c = found_given _ _ _ c.args.u _ _ _ c.given-1.given.1 c.find_triangle_containing.ensures
+returns-in-At c = found_given _ _ _ c.args.u _ _ _ c.in-At.is c.find_triangle_containing.ensures
 
 pub returns-in-Nothing : goal.returns-in-Nothing
-returns-in-Nothing c = found_picked _ _ _ _ _ _ c.enum_told-1.given.1 c.pick_start.ensures
+returns-in-Nothing c = found_picked _ _ _ _ _ _ c.in-Nothing.is c.pick_start.ensures

@@ -5,7 +5,7 @@ use Rattle.kinds.proofs.set_out.Goals as goal
 
 pub returns-in_default : goal.returns-in_default
 returns-in_default c = let a = c.args in
-    start-lost _ a.given _ _ _ _ c.enum_told-1.given.1 c.lost_end.ensures c.lost.ensures c.walked_stand-s.ensures
+    start-lost _ a.given _ _ _ _ c.in_default.is c.lost_end.ensures c.lost.ensures c.walked_stand-s.ensures
 
 pub returns : goal.returns
-returns c = start-found _ c.args.given _ _ _ _ _ c.found-1.given.1 c.walked_stand-s-2.ensures
+returns c = start-found _ c.args.given _ _ _ _ _ c.in-At.is c.walked_stand-s-2.ensures

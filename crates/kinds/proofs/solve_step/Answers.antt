@@ -14,10 +14,10 @@ pub overflow_add-stand-in-Moved : goal.overflow_add-stand-in-Moved
 overflow_add-stand-in-Moved c = let q = c.requires in omega (arith, norms_few q.ready q.standing)
 
 pub returns-in-Halted : goal.returns-in-Halted
-returns-in-Halted c = solve-halted _ _ _ _ c.requires.long _ _ _ _ c.matrix_at-m.ensures c.vectors_at-at.ensures c.one_pass-turn.ensures _ c.enum_told-1.given.1 c.solved_stand-s.ensures
+returns-in-Halted c = solve-halted _ _ _ _ c.requires.long _ _ _ _ c.matrix_at-m.ensures c.vectors_at-at.ensures c.one_pass-turn.ensures _ c.in-Halted.is c.solved_stand-s.ensures
 
 pub returns-in-Reached : goal.returns-in-Reached
-returns-in-Reached c = solve-reached _ _ _ _ c.requires.long _ _ _ _ c.matrix_at-m.ensures c.vectors_at-at.ensures c.one_pass-turn.ensures _ _ c.turn-1.given.1 c.solved_stand-s-in-Reached.ensures
+returns-in-Reached c = solve-reached _ _ _ _ c.requires.long _ _ _ _ c.matrix_at-m.ensures c.vectors_at-at.ensures c.one_pass-turn.ensures _ _ c.in-Reached.is c.solved_stand-s-in-Reached.ensures
 
 pub returns-in-Moved : goal.returns-in-Moved
-returns-in-Moved c = solve-moved _ _ _ _ c.requires.long _ _ _ _ c.matrix_at-m.ensures c.vectors_at-at.ensures c.one_pass-turn.ensures _ _ _ _ c.turn-in-Moved-1.given.1 c.limit_end-end.ensures c.solved_stand-s-in-Moved.ensures
+returns-in-Moved c = solve-moved _ _ _ _ c.requires.long _ _ _ _ c.matrix_at-m.ensures c.vectors_at-at.ensures c.one_pass-turn.ensures _ _ _ _ c.in-Moved.is c.limit_end-end.ensures c.solved_stand-s-in-Moved.ensures

@@ -9,22 +9,22 @@ use Rattle.opening.proofs.open.Goals as goal
 pub lacks-requires : goal.lacks-requires
 lacks-requires c =
     let bytes : Bytes c.args.sheet.now = record { below = λ i. (c.shared_slice_known-1.given i).fits } in
-    counted-read _ bytes _ (sym c.checked-in-Accepted-1.given.1 ∙ c.check_sheet-checked.ensures) _ c.plan_of-plan.ensures
+    counted-read _ bytes _ (sym c.in-Accepted.is ∙ c.check_sheet-checked.ensures) _ c.plan_of-plan.ensures
 
 pub returns-then-lacks : goal.returns-then-lacks
 returns-then-lacks c =
     let bytes : Bytes c.args.sheet.now = record { below = λ i. (c.shared_slice_known-1.given i).fits } in
-    answers-short _ bytes _ (sym c.checked-in-Accepted-1.given.1 ∙ c.check_sheet-checked.ensures) (buffers _ _ _) _ c.plan_of-plan.ensures _ c.refuse-then-lacks.ensures (sym c.lacks.ensures ∙ c.if-lacks.true)
+    answers-short _ bytes _ (sym c.in-Accepted.is ∙ c.check_sheet-checked.ensures) (buffers _ _ _) _ c.plan_of-plan.ensures _ c.refuse-then-lacks.ensures (sym c.lacks.ensures ∙ c.if-lacks.true)
 
 pub place_zero-run-requires : goal.place_zero-run-requires
 place_zero-run-requires c =
     let bytes : Bytes c.args.sheet.now = record { below = λ i. (c.shared_slice_known-1.given i).fits } in
-    suffices _ bytes _ (sym c.checked-in-Accepted-1.given.1 ∙ c.check_sheet-checked.ensures) (buffers _ _ _) _ c.plan_of-plan.ensures (sym c.lacks.ensures ∙ c.if-lacks.false)
+    suffices _ bytes _ (sym c.in-Accepted.is ∙ c.check_sheet-checked.ensures) (buffers _ _ _) _ c.plan_of-plan.ensures (sym c.lacks.ensures ∙ c.if-lacks.false)
 
 pub returns-in-Refused : goal.returns-in-Refused
-returns-in-Refused c = answers_refused _ _ _ _ c.refuse.ensures (sym c.checked-1.given.1 ∙ c.check_sheet-checked.ensures)
+returns-in-Refused c = answers_refused _ _ _ _ c.refuse.ensures (sym c.in-Refused.is ∙ c.check_sheet-checked.ensures)
 
 pub returns-else-lacks : goal.returns-else-lacks
 returns-else-lacks c =
     let bytes : Bytes c.args.sheet.now = record { below = λ i. (c.shared_slice_known-1.given i).fits } in
-    answers-open _ bytes _ (sym c.checked-in-Accepted-1.given.1 ∙ c.check_sheet-checked.ensures) (buffers _ _ _) _ c.plan_of-plan.ensures _ _ (sym c.lacks.ensures ∙ c.if-lacks.false) c.place_zero-run.ensures
+    answers-open _ bytes _ (sym c.in-Accepted.is ∙ c.check_sheet-checked.ensures) (buffers _ _ _) _ c.plan_of-plan.ensures _ _ (sym c.lacks.ensures ∙ c.if-lacks.false) c.place_zero-run.ensures

@@ -7,6 +7,6 @@ use Rattle.opening.proofs.start_of.Goals as goal
 pub returns-in-Given-y : goal.returns-in-Given-y
 returns-in-Given-y c =
     let a = c.args in
-    let ex : a.x ≡ Real.Given c.x-1.given.0.0 = c.x-1.given.1 in
-    let ey : a.y ≡ Real.Given c.y-1.given.0.0 = c.y-1.given.1 in
+    let ex : a.x ≡ Real.Given c.in-Given.a = c.in-Given.is in
+    let ey : a.y ≡ Real.Given c.in-Given-y.b = c.in-Given-y.is in
     rw (ex, ey)

@@ -5,16 +5,16 @@ use borrow.Author.Rules.{rules}
 use Rattle.seek.proofs.from_origin.Goals as goal
 
 pub returns-in-Here : goal.returns-in-Here
-returns-in-Here c = from-here _ _ _ _ _ _ _ c.enum_told-1.given.1 refl refl refl
+returns-in-Here c = from-here _ _ _ _ _ _ _ c.in-Here.is refl refl refl
 
 pub returns-in-Started : goal.returns-in-Started
-returns-in-Started c = from-started _ _ _ _ _ _ _ c.enum_told-in-Started-1.given.1 c.to_started.ensures
+returns-in-Started c = from-started _ _ _ _ _ _ _ c.in-Started.is c.to_started.ensures
 
 pub returns-in-Solved : goal.returns-in-Solved
-returns-in-Solved c = from-solved _ _ _ _ _ _ _ c.enum_told-in-Solved-1.given.1 c.to_solved.ensures
+returns-in-Solved c = from-solved _ _ _ _ _ _ _ c.in-Solved.is c.to_solved.ensures
 
 pub returns-in-Kept : goal.returns-in-Kept
-returns-in-Kept c = from-kept _ _ _ _ _ _ _ _ c.o-1.given.1 c.to_kept.ensures
+returns-in-Kept c = from-kept _ _ _ _ _ _ _ _ c.in-Kept.is c.to_kept.ensures
 
 pub returns-in-Zero : goal.returns-in-Zero
-returns-in-Zero c = from_zero _ _ _ _ _ _ _ c.enum_told-in-Zero-1.given.1 c.to_zero.ensures
+returns-in-Zero c = from_zero _ _ _ _ _ _ _ c.in-Zero.is c.to_zero.ensures

@@ -119,7 +119,7 @@ finish-requires c =
     let t = c.u32_at-t.result in
     let et : t ≡ number 4 (drop (4 + 16 * n) s) = c.u32_at-t.ensures in
     let p : Places s n t = places s n t m en et in
-    settings-whole _ _ _ _ p.vertices p.triangles (sym c.read-in-Read-1.given.1 ∙ c.settings-read.ensures)
+    settings-whole _ _ _ _ p.vertices p.triangles (sym c.in-Read.is ∙ c.settings-read.ensures)
 
 pub returns-in-Refused : goal.returns-in-Refused
 returns-in-Refused c =
@@ -131,7 +131,7 @@ returns-in-Refused c =
     let et : t ≡ number 4 (drop (4 + 16 * n) s) = c.u32_at-t.ensures in
     let p : Places s n t = places s n t m en et in
     let e5 : take (length s - (16 + 17 * n + 24 * t)) (drop (16 + 17 * n + 24 * t) s) ≡ from5 s = part_from (16 + 17 * n + 24 * t) s ∙ sym p.fifth in
-    check_settings s _ _ c.mesh_fault-mesh.ensures c.if-mesh-ne0.false (sym c.read-1.given.1 ∙ c.settings-read.ensures ∙ ap settings_read e5)
+    check_settings s _ _ c.mesh_fault-mesh.ensures c.if-mesh-ne0.false (sym c.in-Refused.is ∙ c.settings-read.ensures ∙ ap settings_read e5)
 
 pub returns-in-Read : goal.returns-in-Read
 returns-in-Read c =
@@ -143,4 +143,4 @@ returns-in-Read c =
     let et : t ≡ number 4 (drop (4 + 16 * n) s) = c.u32_at-t.ensures in
     let p : Places s n t = places s n t m en et in
     let e5 : take (length s - (16 + 17 * n + 24 * t)) (drop (16 + 17 * n + 24 * t) s) ≡ from5 s = part_from (16 + 17 * n + 24 * t) s ∙ sym p.fifth in
-    check_last s _ n t _ _ c.mesh_fault-mesh.ensures c.if-mesh-ne0.false en p.second (sym c.read-in-Read-1.given.1 ∙ c.settings-read.ensures ∙ ap settings_read e5) (c.finish.ensures ∙ ap (finished n t _) e5)
+    check_last s _ n t _ _ c.mesh_fault-mesh.ensures c.if-mesh-ne0.false en p.second (sym c.in-Read.is ∙ c.settings-read.ensures ∙ ap settings_read e5) (c.finish.ensures ∙ ap (finished n t _) e5)

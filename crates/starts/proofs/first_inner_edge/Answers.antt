@@ -12,10 +12,10 @@ pub loop-t-init : goal.loop-t-init
 loop-t-init c = (omega arith, first_inner-all _ _ _ _ _)
 
 pub returns-in-At : goal.returns-in-At
-returns-in-At c = start-found _ _ _ c.loop-t-test.true (sym c.inner_edge_of.ensures ∙ c.p-1.given.1) c.loop-t.invariant.1
+returns-in-At c = start-found _ _ _ c.loop-t-test.true (sym c.inner_edge_of.ensures ∙ c.in-At.is) c.loop-t.invariant.1
 
 pub loop-t-preserved : goal.loop-t-preserved
-loop-t-preserved c = (omega arith, start-skip _ _ _ c.loop-t-test.true (sym c.inner_edge_of.ensures ∙ c.enum_told-1.given.1) c.loop-t.invariant.1)
+loop-t-preserved c = (omega arith, start-skip _ _ _ c.loop-t-test.true (sym c.inner_edge_of.ensures ∙ c.in_default.is) c.loop-t.invariant.1)
 
 pub returns : goal.returns
 returns c = start-done _ _ _ c.loop-t-test.false c.loop-t.invariant.1

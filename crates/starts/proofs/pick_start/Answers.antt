@@ -6,8 +6,8 @@ use Rattle.starts.proofs.pick_start.Goals as goal
 
 pub returns-in-At : goal.returns-in-At
 unfolding pick_start
-returns-in-At c = rw (← c.first_inner_edge.ensures, c.p-1.given.1)
+returns-in-At c = rw (← c.first_inner_edge.ensures, c.in-At.is)
 
 pub returns : goal.returns
 unfolding pick_start field_of
-returns c = rw (← c.first_inner_edge.ensures, c.enum_told-1.given.1, ← c.least_vertex.ensures) c.first_with.ensures
+returns c = rw (← c.first_inner_edge.ensures, c.in_default.is, ← c.least_vertex.ensures) c.first_with.ensures

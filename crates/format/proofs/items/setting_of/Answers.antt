@@ -10,6 +10,14 @@ use Rattle.format.specs.Sheet.{setting_of}
 use Rattle.format.proofs.Laws.{kind_is, kind_real, kind_nan, kind_unknown}
 use Rattle.format.proofs.items.setting_of.Goals as goal
 
+pub returns-in-1 : goal.returns-in-1
+unfolding setting_of
+returns-in-1 c = kind_is _ 1 _ _ c.in-1.is refl
+
+pub returns-in-6 : goal.returns-in-6
+unfolding setting_of
+returns-in-6 c = kind_is _ 6 _ _ c.in-6.is refl
+
 pub returns-in_default : goal.returns-in_default
 returns-in_default c = kind_unknown _ _ (omega arith) (omega arith) (omega arith) (omega arith) (omega arith) (omega arith)
 
@@ -21,6 +29,18 @@ returns-then-nan_pattern c = kind_nan _ _ (omega arith) (omega arith) (sym c.nan
 
 pub float_from_bits-x : goal.float_from_bits-x
 float_from_bits-x c = subst (λ (t : Bool). T (not t)) (sym (sym c.nan_pattern.ensures ∙ c.if-nan_pattern.false)) tt
+
+pub returns-in-2 : goal.returns-in-2
+unfolding setting_of
+returns-in-2 c = kind_is _ 2 _ _ c.in-2.is (kind_real 2 _ Tolerance refl (sym c.nan_pattern.ensures ∙ c.if-nan_pattern.false))
+
+pub returns-in-3 : goal.returns-in-3
+unfolding setting_of
+returns-in-3 c = kind_is _ 3 _ _ c.in-3.is (kind_real 3 _ Step refl (sym c.nan_pattern.ensures ∙ c.if-nan_pattern.false))
+
+pub returns-in-4 : goal.returns-in-4
+unfolding setting_of
+returns-in-4 c = kind_is _ 4 _ _ c.in-4.is (kind_real 4 _ StartX refl (sym c.nan_pattern.ensures ∙ c.if-nan_pattern.false))
 
 pub returns-in_default-kind : goal.returns-in_default-kind
 unfolding setting_of

@@ -15,16 +15,16 @@ pub returns-in_default : goal.returns-in_default
 returns-in_default c =
     crossing-stuck _ _ _ _ _ _ _ _ _ _ _
     c.magnitude-mag.ensures c.if-mag-rule.false c.direction-dir.ensures c.find_exit_edge-best.ensures
-    c.enum_told-1.given.1
+    c.in_default.is
 
 pub beyond-requires : goal.beyond-requires
 beyond-requires c =
     let p = c.requires in
     let found = c.find_exit_edge-best.ensures in
-    (p.0, p.1, exit_of (subst ExitIn (sym (ap (λ (n : Nearest). n.exit) found)) (exit_in _ _ _ _ _ _ _)) c.exit-1.given.1)
+    (p.0, p.1, exit_of (subst ExitIn (sym (ap (λ (n : Nearest). n.exit) found)) (exit_in _ _ _ _ _ _ _)) c.in-Through.is)
 
 pub returns : goal.returns
 returns c =
     crossing-leaves _ _ _ _ _ _ _ _ _ _ _
     c.magnitude-mag.ensures c.if-mag-rule.false c.direction-dir.ensures c.find_exit_edge-best.ensures
-    c.exit-1.given.1 c.pieces-n.ensures c.beyond.ensures
+    c.in-Through.is c.pieces-n.ensures c.beyond.ensures

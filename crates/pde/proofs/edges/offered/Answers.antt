@@ -4,12 +4,12 @@ use Rattle.pde.specs.Exit.{distance}
 use Rattle.pde.proofs.edges.offered.Goals as goal
 
 pub returns-in_default : goal.returns-in_default
-returns-in_default c = rw c.enum_told-1.given.1
+returns-in_default c = rw c.in_default.is
 
 pub returns-then-is_nearer : goal.returns-then-is_nearer
 unfolding distance
-returns-then-is_nearer c = rw (c.hit-1.given.1, ← c.squared-square.ensures, ← c.is_nearer.ensures, c.if-is_nearer.true)
+returns-then-is_nearer c = rw (c.in-At.is, ← c.squared-square.ensures, ← c.is_nearer.ensures, c.if-is_nearer.true)
 
 pub returns : goal.returns
 unfolding distance
-returns c = rw (c.hit-1.given.1, ← c.squared-square.ensures, ← c.is_nearer.ensures, c.if-is_nearer.false)
+returns c = rw (c.in-At.is, ← c.squared-square.ensures, ← c.is_nearer.ensures, c.if-is_nearer.false)

@@ -4,13 +4,13 @@ use Rattle.image.specs.ReplayLaws.{call_else}
 use Rattle.run.proofs.replaying.perform.Goals as goal
 
 pub returns-in-0 : goal.returns-in-0
-returns-in-0 c = rw c.in-0.keys1 c.advance.ensures
+returns-in-0 c = rw c.in-0.is c.advance.ensures
 
 pub returns-in-1 : goal.returns-in-1
-returns-in-1 c = rw c.in-1.keys2 c.back.ensures
+returns-in-1 c = rw c.in-1.is c.back.ensures
 
 pub returns-in-2 : goal.returns-in-2
-returns-in-2 c = rw c.in-2.keys3 c.mark.ensures
+returns-in-2 c = rw c.in-2.is c.mark.ensures
 
 pub returns-in_default : goal.returns-in_default
 returns-in_default c =

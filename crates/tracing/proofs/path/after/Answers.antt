@@ -9,12 +9,12 @@ use Rattle.tracing.proofs.path.after.Goals as goal
 
 -- src/path.rt:158:1
 pub returns-in-Dull : goal.returns-in-Dull
-returns-in-Dull c = walk_dull _ _ _ _ _ c.enum_told-1.given.1 c.ended.ensures
+returns-in-Dull c = walk_dull _ _ _ _ _ c.in-Dull.is c.ended.ensures
 
 -- src/path.rt:158:1
 pub returns-in-Stuck : goal.returns-in-Stuck
-returns-in-Stuck c = walk_stuck _ _ _ _ _ c.enum_told-in-Stuck-1.given.1 c.ended-in-Stuck.ensures
+returns-in-Stuck c = walk_stuck _ _ _ _ _ c.in-Stuck.is c.ended-in-Stuck.ensures
 
 -- src/path.rt:158:1
 pub returns-in-Leaves : goal.returns-in-Leaves
-returns-in-Leaves c = rw c.c-1.given.1 c.left_at.ensures
+returns-in-Leaves c = rw c.in-Leaves.is c.left_at.ensures

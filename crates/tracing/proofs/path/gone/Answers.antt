@@ -3,13 +3,13 @@ use Rattle.std.proofs.Common.{rules}
 use Rattle.tracing.proofs.path.gone.Goals as goal
 
 pub returns-in-Border : goal.returns-in-Border
-returns-in-Border c = rw c.enum_told-1.given.1 c.with_points.ensures
+returns-in-Border c = rw c.in-Border.is c.with_points.ensures
 
 pub returns-in-Unnamed : goal.returns-in-Unnamed
-returns-in-Unnamed c = rw c.enum_told-in-Unnamed-1.given.1 c.with_points-in-Unnamed.ensures
+returns-in-Unnamed c = rw c.in-Unnamed.is c.with_points-in-Unnamed.ensures
 
 pub returns-in-Above : goal.returns-in-Above
-returns-in-Above c = rw c.enum_told-in-Above-1.given.1 c.with_points-in-Above.ensures
+returns-in-Above c = rw c.in-Above.is c.with_points-in-Above.ensures
 
 pub returns-in-Into : goal.returns-in-Into
-returns-in-Into c = rw (c.b-1.given.1, c.end_of-end.ensures)
+returns-in-Into c = rw (c.in-Into.is, c.end_of-end.ensures)

@@ -8,12 +8,12 @@ use Rattle.tracing.proofs.path.put_added.Goals as goal
 
 -- src/path.rt:187:1
 pub returns-in-Dull : goal.returns-in-Dull
-returns-in-Dull c = put_dull _ _ _ _ c.enum_told-1.given.1
+returns-in-Dull c = put_dull _ _ _ _ c.in-Dull.is
 
 -- src/path.rt:187:1
 pub returns-in-Stuck : goal.returns-in-Stuck
-returns-in-Stuck c = put_stuck _ _ _ _ c.enum_told-in-Stuck-1.given.1
+returns-in-Stuck c = put_stuck _ _ _ _ c.in-Stuck.is
 
 -- src/path.rt:187:1
 pub returns-in-Leaves : goal.returns-in-Leaves
-returns-in-Leaves c = rw c.c-1.given.1 c.put_leaving.ensures
+returns-in-Leaves c = rw c.in-Leaves.is c.put_leaving.ensures

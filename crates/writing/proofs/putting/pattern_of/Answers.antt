@@ -8,4 +8,4 @@ use Rattle.writing.specs.Write.{pattern_of}
 use Rattle.writing.proofs.putting.pattern_of.Goals as goal
 
 pub returns-in-Given : goal.returns-in-Given
-returns-in-Given c = ap (λ (v : ℕ). Whole.Given v) c.pattern.ensures ∙ sym (ap pattern_of c.r-1.given.1)
+returns-in-Given c = ap (λ (v : ℕ). Whole.Given v) c.pattern.ensures ∙ sym (ap pattern_of c.in-Given.is)

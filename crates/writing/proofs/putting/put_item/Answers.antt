@@ -15,22 +15,22 @@ use Rattle.writing.proofs.putting.put_item.Goals as goal
 pub bounds-out-at : goal.bounds-out-at
 bounds-out-at c =
     let a = c.args in
-    let v = c.w-1.given.0.0 in
-    let h : a.at + 9 * length (slot_item a.kind (Whole.Given v)) ≤ length a.out.now = subst (λ (z : Whole). a.at + 9 * length (slot_item a.kind z) ≤ length a.out.now) c.w-1.given.1 c.requires in
+    let v = c.in-Given.v in
+    let h : a.at + 9 * length (slot_item a.kind (Whole.Given v)) ≤ length a.out.now = subst (λ (z : Whole). a.at + 9 * length (slot_item a.kind z) ≤ length a.out.now) c.in-Given.is c.requires in
     omega arith
 
 pub put_u64-requires : goal.put_u64-requires
 put_u64-requires c =
     let a = c.args in
-    let v = c.w-1.given.0.0 in
-    let h : a.at + 9 * length (slot_item a.kind (Whole.Given v)) ≤ length a.out.now = subst (λ (z : Whole). a.at + 9 * length (slot_item a.kind z) ≤ length a.out.now) c.w-1.given.1 c.requires in
+    let v = c.in-Given.v in
+    let h : a.at + 9 * length (slot_item a.kind (Whole.Given v)) ≤ length a.out.now = subst (λ (z : Whole). a.at + 9 * length (slot_item a.kind z) ≤ length a.out.now) c.in-Given.is c.requires in
     simp length-set (omega arith)
 
 pub returns-in-Absent : goal.returns-in-Absent
 unfolding all_bytes
 returns-in-Absent c =
     let a = c.args in
-    subst (λ (z : Whole). PutsItem a.kind z a.at a.out.now a.at a.out.now) (sym c.enum_told-1.given.1)
+    subst (λ (z : Whole). PutsItem a.kind z a.at a.out.now a.at a.out.now) (sym c.in-Absent.is)
     (record { put = sym (placed_none a.out.now a.at); goes = omega arith })
 
 pub shape_of-out : goal.shape_of-out
@@ -41,6 +41,6 @@ shape_of-out c =
 pub returns-in-Given : goal.returns-in-Given
 returns-in-Given c =
     let a = c.args in
-    let v = c.w-1.given.0.0 in
-    subst (λ (z : Whole). PutsItem a.kind z a.at a.out.now (a.at + 9) c.put_u64.new.0) (sym c.w-1.given.1)
+    let v = c.in-Given.v in
+    subst (λ (z : Whole). PutsItem a.kind z a.at a.out.now (a.at + 9) c.put_u64.new.0) (sym c.in-Given.is)
     (record { put = item_put a.out.now _ a.at a.kind v c.ranges.kind.fits c.put_u64.ensures; goes = omega arith })
