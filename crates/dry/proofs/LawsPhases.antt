@@ -149,7 +149,7 @@ module _ (plan : Plan) (words : List ℕ) (floats : List Float) (s : Stand) (k :
       ready = c.ready;
       standing = record {
         norms-least = c.standing.norms-least;
-        norms_most = c.standing.norms-most;
+        norms_most = c.standing.norms_most;
         points-most = c.standing.points-most;
         triangle-in = c.standing.triangle-in;
         edge_in = c.standing.edge_in;

@@ -180,7 +180,7 @@ module _ (plan : Plan) (words : List ℕ) (room : 1 ≤ plan.room) where
 -- ---- a call
 
 ranged : (r : Run) (b : Buffers) → Accepted r b → InRange r.plan r.stand
-ranged r b h = record { norms = h.standing.norms-most; points = h.standing.points-most }
+ranged r b h = record { norms = h.standing.norms_most; points = h.standing.points-most }
 
 module _ (r : Run) (b : Buffers) where
   pub gone-keeps : (c : Call) → Accepted r b → Keeps r.plan (work_of r b) (gone c r b)

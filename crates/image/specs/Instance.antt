@@ -23,7 +23,7 @@ module _ (c : Task) (z : Sized c) where
   pub facts : Facts c
   facts = record {
     seek-image = λ p target m floats words path h k. Seek.seek-image c z floats words path p target h m;
-    mark_image = λ p m floats h k. Goes.mark-image c z p m floats;
+    mark_image = λ p m floats h k. Goes.mark_image c z p m floats;
     last_bound = last_bound c;
     stand-sound = λ p h. Sound.stand-sound c z p h;
     mark-sound = λ m h. Sound.mark-sound c z m (marked m h);

@@ -153,10 +153,10 @@ module _ (c : Task) (facts : Facts c) where
   gone_at : (call : Call) (s : Counter) (rest : Rest) → Within (last_place c) s → gone call (run_of c s) (image c s rest) ≡ work_on c (moved (last_place c) call s) rest
   unfolding gone run_of image
   gone_at (advance k) s rest w =
-      let l : _ = facts.last-bound in
+      let l : _ = facts.last_bound in
       sought s rest (min (s.place + k) (farthest (triangle_count c) c.limit)) (min (s.place + k) (last_place c)) w (omega arith)
   gone_at (back k) s rest w = let h : s.place ≤ last_place c = w.place_in in sought s rest (s.place - k) (s.place - k) w (omega arith)
-  gone_at mark s rest w = ap (λ (l : List Float). work l (path_of c (at c s.place) rest.path) (stand_of s.place (at c s.place))) (facts.mark-image s.place s.mark rest.floats w.place_in w.mark-in)
+  gone_at mark s rest w = ap (λ (l : List Float). work l (path_of c (at c s.place) rest.path) (stand_of s.place (at c s.place))) (facts.mark_image s.place s.mark rest.floats w.place_in w.mark-in)
   gone_at return s rest w =
       let h : mark_or s.mark s.place ≤ last_place c = mark-place s.mark s.place w.place_in w.mark-in in
       let e : mark_place (mark_of c s.mark) s.place ≡ mark_or s.mark s.place = same-mark s.mark s.place in

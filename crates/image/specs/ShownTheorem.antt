@@ -177,7 +177,7 @@ module _ (c : Task) (good : Sized c) (facts : Facts c) (parts : Parts c) where
   unfolding run_of image
   image-shown s rest w =
       let e : _ = w.place_in in
-      let l : _ = facts.last-bound in
+      let l : _ = facts.last_bound in
       let m : _ = parts.read_back s.place s.mark rest.floats rest.words w.place_in w.mark-in in
       record {
         place = refl;

@@ -118,7 +118,7 @@ module _ (plan : Plan) (words : List ℕ) (f : List Float) (s : Stand) (long : l
 
 -- how many norms there are at most
 pub norms_few : {plan : Plan} {words : List ℕ} {s : Stand} → Ready plan words → Standing plan s → s.norms ≤ 100001
-norms_few {plan} {words} {s} r st = omega (arith, r.limit-most, st.norms-most, pick_small (eqb s.end 0))
+norms_few {plan} {words} {s} r st = omega (arith, r.limit-most, st.norms_most, pick_small (eqb s.end 0))
 
 -- ---- the mesh, the field and the gradients in a front
 

@@ -190,7 +190,7 @@ pub crossing_walk : (c : Task) → Sized c → (us : List Float) (t : Trail) →
 unfolding crossing_pass crossed
 crossing_walk c s us t h =
     walked_stands c.room (eqb (t.crossings + 1) (factor * triangle_count c)) (triangle_count c) t.walk _
-    (crossing-in rule c.vertices c.triangles c.neighbours (triangle_count c) us (neighbouring c s) t.gradients c.step t.walk.position t.walk.triangle t.walk.edge h.triangle-below) h
+    (crossing-in rule c.vertices c.triangles c.neighbours (triangle_count c) us (neighbouring c s) t.gradients c.step t.walk.position t.walk.triangle t.walk.edge h.triangle_below) h
 
 -- the path after a crossing begins with the path before it
 pub crossing_path : (c : Task) (us : List Float) (t : Trail) → (more : List Point) × ((crossing_pass c us t).path ≡ t.path ++ more)

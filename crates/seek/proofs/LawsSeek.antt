@@ -189,7 +189,7 @@ erasable {plan} {words} {s} r st ro = record {
   limit-most = r.limit-most;
   room_most = r.room_most;
   norms-least = st.norms-least;
-  norms_most = omega (arith, st.norms-most, pick_small (eqb s.end 0));
+  norms_most = omega (arith, st.norms_most, pick_small (eqb s.end 0));
   points-most = st.points-most;
   roomy = ro;
 }
@@ -200,7 +200,7 @@ pub started_near : (plan : Plan) (s : Stand) (m p : List Float) (place : ℕ) (r
 started_near plan s m p place r h e er =
     let a : r.place ≡ place = ap (λ (x : Stand). x.place) er in
     let b = solved-small s.norms s.end in
-    omega (arith, h.norms-most, h.limit-most)
+    omega (arith, h.norms_most, h.limit-most)
 
 pub started_writable : (plan : Plan) (words : List ℕ) (s : Stand) (m p : List Float) (place : ℕ) (r : Stand) (l k : ℕ) → Ready plan words → Erasable plan s m p
     → r ≡ pathless place s.rs s.norms s.end → l ≡ length m → k ≡ length p → Writable plan r l k
@@ -208,7 +208,7 @@ started_writable plan words s m p place r l k ready h er el ek =
     rw er (record {
       n-most = h.n-most;
       t-most = h.t-most;
-      norms-fit = omega (arith, h.norms-most, h.roomy.floats-fit);
+      norms-fit = omega (arith, h.norms_most, h.roomy.floats-fit);
       points-most = omega arith;
       room-least = ready.room-least;
       room_most = h.room_most;

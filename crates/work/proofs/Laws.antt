@@ -59,7 +59,7 @@ pub writable : (plan : Plan) (words : List ℕ) (s : Stand) (m p : List Float) (
 writable plan words s m p l k r st ro e h = record {
   n-most = r.n-most;
   t-most = r.t-most;
-  norms-fit = omega (arith, st.norms-most, pick_small (eqb s.end 0), ro.floats-fit);
+  norms-fit = omega (arith, st.norms_most, pick_small (eqb s.end 0), ro.floats-fit);
   points-most = st.points-most;
   room-least = r.room-least;
   room_most = r.room_most;

@@ -84,8 +84,8 @@ module _ (plan : Plan) (words : List ℕ) (mark : Mark) (target : ℕ) (w : Work
   from-standing r st m =
       origin_elim (λ (o : Origin). Standing plan (from_origin plan words o w).stand) plan.limit w.stand mark target
       (λ _. st)
-      (λ n _. subst (Standing plan) (sym (started-stand plan words w n)) (once-standing plan words (to_solved plan w) r (pathless_standing plan _ _ w.stand.norms w.stand.end st.norms-least st.norms-most)))
-      (λ _ _. pathless_standing plan _ _ w.stand.norms w.stand.end st.norms-least st.norms-most)
+      (λ n _. subst (Standing plan) (sym (started-stand plan words w n)) (once-standing plan words (to_solved plan w) r (pathless_standing plan _ _ w.stand.norms w.stand.end st.norms-least st.norms_most)))
+      (λ _ _. pathless_standing plan _ _ w.stand.norms w.stand.end st.norms-least st.norms_most)
       (λ k e _ h. let g : Keeping plan k = rw e at m in pathless_standing plan _ _ k.norms 0 g.least (omega arith))
       (pathless_standing plan _ _ 1 _ (omega arith) (first_norm plan.limit))
 

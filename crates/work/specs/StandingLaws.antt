@@ -61,18 +61,18 @@ abbrev pub turn_of : Plan → List ℕ → List Float → Stand → Turn
 turn_of plan words f s = Solver.pass flat (matrix words f (matrix_at plan.n plan.t)) plan.tolerance (vectors_in plan.n plan.t f s.rs)
 
 pub unsolved_norms : (plan : Plan) (s : Stand) → Standing plan s → s.end ≡ 0 → s.norms ≤ plan.limit
-unsolved_norms plan s st e = let h : s.norms ≤ plan.limit + pick (eqb 0 0) 0 1 = rw e at st.norms-most in omega arith
+unsolved_norms plan s st e = let h : s.norms ≤ plan.limit + pick (eqb 0 0) 0 1 = rw e at st.norms_most in omega arith
 
 solved_standing : (plan : Plan) (s : Stand) (f : List Float) (turn : Turn) → Standing plan s → s.end ≡ 0 → Standing plan (solved_step plan s f turn).stand
 unfolding solved_step
 solved_standing plan s f halted st e =
     let h : s.norms ≤ plan.limit = unsolved_norms plan s st e in
-    record { norms-least = st.norms-least; norms_most = omega arith; points-most = st.points-most; triangle-in = st.triangle-in; edge_in = st.edge_in; crossings_left = st.crossings-left }
+    record { norms-least = st.norms-least; norms_most = omega arith; points-most = st.points-most; triangle-in = st.triangle-in; edge_in = st.edge_in; crossings_left = st.crossings_left }
 solved_standing plan s f (reached x r norm) st e =
     let h : s.norms ≤ plan.limit = unsolved_norms plan s st e in
-    record { norms-least = omega arith; norms_most = omega arith; points-most = st.points-most; triangle-in = st.triangle-in; edge_in = st.edge_in; crossings_left = st.crossings-left }
+    record { norms-least = omega arith; norms_most = omega arith; points-most = st.points-most; triangle-in = st.triangle-in; edge_in = st.edge_in; crossings_left = st.crossings_left }
 solved_standing plan s f (moved next norm) st e =
-    record { norms-least = omega arith; norms_most = most (leb plan.limit s.norms) refl; points-most = st.points-most; triangle-in = st.triangle-in; edge_in = st.edge_in; crossings_left = st.crossings-left }
+    record { norms-least = omega arith; norms_most = most (leb plan.limit s.norms) refl; points-most = st.points-most; triangle-in = st.triangle-in; edge_in = st.edge_in; crossings_left = st.crossings_left }
   where
     h : s.norms ≤ plan.limit
     h = unsolved_norms plan s st e
@@ -91,7 +91,7 @@ pub set_out_standing : (plan : Plan) (words : List ℕ) (s : Stand) (f : List Fl
 unfolding set_out_step
 set_out_standing plan words s f k (Start.At p t e) r h b = record {
   norms-least = h.norms-least;
-  norms_most = h.norms-most;
+  norms_most = h.norms_most;
   points-most = r.room-least;
   triangle-in = λ _. b.0;
   edge_in = b.1;
@@ -99,7 +99,7 @@ set_out_standing plan words s f k (Start.At p t e) r h b = record {
 }
 set_out_standing plan words s f k Start.Nothing r h b = record {
   norms-least = h.norms-least;
-  norms_most = h.norms-most;
+  norms_most = h.norms_most;
   points-most = omega arith;
   triangle-in = λ z. absurd (omega arith);
   edge_in = omega arith;
@@ -129,11 +129,11 @@ module _ (plan : Plan) (s : Stand) (x : Crossing) where
       let w = walked_stands plan.room b plan.t s.walk x c (record { triangle_below = st.triangle-in z; edge-most = st.edge_in }) in
       record {
         norms-least = st.norms-least;
-        norms_most = st.norms-most;
+        norms_most = st.norms_most;
         points-most = walked-most plan.room b s.walk x st.points-most;
-        triangle-in = λ _. w.triangle-below;
+        triangle-in = λ _. w.triangle_below;
         edge_in = w.edge-most;
-        crossings_left = λ h _. on-left b eb (st.crossings-left e z) h;
+        crossings_left = λ h _. on-left b eb (st.crossings_left e z) h;
       }
 
 cross_standing : (plan : Plan) (words : List ℕ) (f : List Float) (s : Stand) → Ready plan words → Standing plan s → s.walk.end ≡ 0 → (s.walk.points ≡ 0 → ⊥) → Standing plan (cross_step plan words f s).stand

@@ -12,7 +12,7 @@ crossing_by-c-requires c = let q = c.requires in
 
 pub crossed-requires : goal.crossed-requires
 crossed-requires c = let q = c.requires in
-    (omega (arith, q.0.ready.t-most), q.3, q.1.standing.crossings-left q.2 q.1.some, q.1.standing.points-most)
+    (omega (arith, q.0.ready.t-most), q.3, q.1.standing.crossings_left q.2 q.1.some, q.1.standing.points-most)
 
 pub returns : goal.returns
 returns c =

@@ -9,7 +9,7 @@ crossing_of-c-requires c = let q = c.requires in (record { ready = q.steppable.r
 pub crossed-s-requires : goal.crossed-s-requires
 crossed-s-requires c =
     let q = c.requires in
-    (omega (arith, q.steppable.ready.t-most), q.steppable.near, q.steppable.standing.crossings-left q.unended q.some, q.steppable.standing.points-most)
+    (omega (arith, q.steppable.ready.t-most), q.steppable.near, q.steppable.standing.crossings_left q.unended q.some, q.steppable.standing.points-most)
 
 pub returns : goal.returns
 returns c = cross_leads _ _ _ _ _ _ c.crossing_of-c.ensures c.crossed-s.ensures

@@ -17,7 +17,7 @@ crossing_of-c-requires c =
 pub crossed-requires : goal.crossed-requires
 crossed-requires c =
     let q = c.requires in
-    (omega (arith, q.0.t-most), q.2, q.1.crossings-left q.4.unended (omega (arith, q.4.some)), q.1.points-most)
+    (omega (arith, q.0.t-most), q.2, q.1.crossings_left q.4.unended (omega (arith, q.4.some)), q.1.points-most)
 
 pub returns : goal.returns
 returns c = cross_comes _ _ _ _ _ _ _ _ _ c.at_norms-f.ensures c.requires.4 c.crossing_of-c.ensures c.put_added.ensures c.crossed.ensures

@@ -13,4 +13,4 @@ returns-then-corner-eq1 c = rw c.if-corner-eq1.true
 
 pub returns : goal.returns
 unfolding side_of
-returns c = last_side _ _ c.if-corner-eq0.false c.if-corner-eq1.false
+returns c = last_side c.args.s c.args.corner c.if-corner-eq0.false c.if-corner-eq1.false

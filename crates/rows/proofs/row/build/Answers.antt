@@ -15,11 +15,6 @@ pub add_corner-k-requires : goal.add_corner-k-requires
 add_corner-k-requires c = let inv = c.loop-c.invariant in
     (building-on _ _ _ _ _ _ c.requires.0 _ _ _ _ inv.written inv.tidy, omega (arith, inv.within, c.loop-c-test.true))
 
-pub bounds-words-l : goal.bounds-words-l
-bounds-words-l c = let inv = c.loop-c.invariant in
-    let lw : length c.loop-c.words ≡ length c.args.words.now = words_long _ _ _ _ _ _ _ _ inv.written in
-    omega (arith, c.add_corner-k.auto.1.0, inv.within, c.loop-c-test.true, c.requires.0.words-laid)
-
 pub loop-c-smaller : goal.loop-c-smaller
 loop-c-smaller c = let pre = c.requires in
     walk-less _ _ _ _ _ _ _ pre.0 pre.1 pre.2 _ _ _ _ c.loop-c.invariant c.loop-c-test.true _ _ _ c.add_corner-k.ensures _ c.wide-c-in-loop-c.ensures

@@ -37,22 +37,22 @@ shift_words-requires c =
     fresh-room _ _ _ _ _ _ _ c.requires.floats-now c.requires.words-now _ pos.0 _ c.stands.ensures c.if-stands.false pos.1 c.requires in
     omega arith
 
+pub returns : goal.returns
+returns c =
+    let pos = c.position-p.ensures in
+    rw (c.shift.ensures, c.shift_words.ensures)
+    (written-fresh _ _ _ _ _ _ _ c.requires.floats-now c.requires.words-now _ pos.0 _ c.stands.ensures c.if-stands.false pos.1)
+
 pub bounds-floats-a-2 : goal.bounds-floats-a-2
 bounds-floats-a-2 c =
     let pos = c.position-p.ensures in
     let l : (c.args.f + c.args.k < length c.args.floats.now) × (c.args.c + c.args.k < length c.args.words.now) =
     fresh-room _ _ _ _ _ _ _ c.requires.floats-now c.requires.words-now _ pos.0 _ c.stands.ensures c.if-stands.false pos.1 c.requires in
-    omega (arith, c.shift.auto.0)
+    omega (arith, c.shift.auto.s)
 
 pub bounds-words-b : goal.bounds-words-b
 bounds-words-b c =
     let pos = c.position-p.ensures in
     let l : (c.args.f + c.args.k < length c.args.floats.now) × (c.args.c + c.args.k < length c.args.words.now) =
     fresh-room _ _ _ _ _ _ _ c.requires.floats-now c.requires.words-now _ pos.0 _ c.stands.ensures c.if-stands.false pos.1 c.requires in
-    omega (arith, c.shift_words.auto.0)
-
-pub returns : goal.returns
-returns c =
-    let pos = c.position-p.ensures in
-    rw (c.shift.ensures, c.shift_words.ensures)
-    (written-fresh _ _ _ _ _ _ _ c.requires.floats-now c.requires.words-now _ pos.0 _ c.stands.ensures c.if-stands.false pos.1)
+    omega (arith, c.shift_words.auto.s)

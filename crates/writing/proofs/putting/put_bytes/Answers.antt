@@ -18,25 +18,6 @@ loop-i-init c = down-none _ _ _ _ _
 pub bounds-xs-i : goal.bounds-xs-i
 bounds-xs-i c = omega arith
 
-pub overflow_add-out : goal.overflow_add-out
-overflow_add-out c =
-    let a = c.args in
-    let e : length c.put_u32.new.0 ≡ length a.out.now = ap length c.put_u32.ensures ∙ length-placed a.out.now a.at _ in
-    omega arith
-
-pub overflow_add-out-in-loop-i : goal.overflow_add-out-in-loop-i
-overflow_add-out-in-loop-i c =
-    let a = c.args in
-    let e : length c.put_u32.new.0 ≡ length a.out.now = ap length c.put_u32.ensures ∙ length-placed a.out.now a.at _ in
-    omega arith
-
-pub bounds-out-at : goal.bounds-out-at
-bounds-out-at c =
-    let a = c.args in
-    let e : length c.put_u32.new.0 ≡ length a.out.now = ap length c.put_u32.ensures ∙ length-placed a.out.now a.at _ in
-    let l = c.loop-i in
-    omega arith
-
 pub overflow_add-i : goal.overflow_add-i
 overflow_add-i c = omega arith
 
@@ -49,12 +30,6 @@ loop-i-preserved c =
     let a = c.args in
     let x = get_or a.xs.now l.i 0 in
     down-more _ _ _ _ _ 0 l.i (a.at + 4 + l.i) l.out _ l.invariant c.loop-i-test.true (omega arith) (byte_put l.out (a.at + 4 + l.i) x (c.shared_slice_known-in-loop-i-1.given l.i).fits)
-
-pub shape_of-out : goal.shape_of-out
-shape_of-out c =
-    let a = c.args in
-    let e : length c.put_u32.new.0 ≡ length a.out.now = ap length c.put_u32.ensures ∙ length-placed a.out.now a.at _ in
-    omega arith
 
 pub returns : goal.returns
 returns c =

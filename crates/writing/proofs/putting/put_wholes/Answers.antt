@@ -15,33 +15,14 @@ put_u32-requires c = omega arith
 pub loop-i-init : goal.loop-i-init
 loop-i-init c = down-none _ _ _ _ _
 
-pub overflow_add-at : goal.overflow_add-at
-overflow_add-at c =
-    let a = c.args in
-    let e : length c.put_u32.new.0 ≡ length a.out.now = ap length c.put_u32.ensures ∙ length-placed a.out.now a.at _ in
-    omega arith
-
 pub overflow_mul-i : goal.overflow_mul-i
 overflow_mul-i c = omega arith
-
-pub overflow_add-at-in-loop-i : goal.overflow_add-at-in-loop-i
-overflow_add-at-in-loop-i c =
-    let a = c.args in
-    let e : length c.put_u32.new.0 ≡ length a.out.now = ap length c.put_u32.ensures ∙ length-placed a.out.now a.at _ in
-    omega arith
 
 pub offset_bounds-xs-i : goal.offset_bounds-xs-i
 offset_bounds-xs-i c = omega arith
 
 pub bounds-xs-i : goal.bounds-xs-i
 bounds-xs-i c = omega arith
-
-pub put_u32-requires-in-loop-i : goal.put_u32-requires-in-loop-i
-put_u32-requires-in-loop-i c =
-    let a = c.args in
-    let e : length c.put_u32.new.0 ≡ length a.out.now = ap length c.put_u32.ensures ∙ length-placed a.out.now a.at _ in
-    let l = c.loop-i in
-    omega arith
 
 pub overflow_add-i : goal.overflow_add-i
 overflow_add-i c = omega arith
@@ -54,12 +35,6 @@ loop-i-preserved c =
     let l = c.loop-i in
     let a = c.args in
     down-more _ _ _ _ _ 0 l.i (a.at + 4 + 4 * l.i) l.out _ l.invariant c.loop-i-test.true refl c.put_u32-in-loop-i.ensures
-
-pub shape_of-out : goal.shape_of-out
-shape_of-out c =
-    let a = c.args in
-    let e : length c.put_u32.new.0 ≡ length a.out.now = ap length c.put_u32.ensures ∙ length-placed a.out.now a.at _ in
-    omega arith
 
 pub returns : goal.returns
 returns c =
