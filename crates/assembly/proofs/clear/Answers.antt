@@ -9,12 +9,5 @@ pub fill_words-requires : goal.fill_words-requires
 fill_words-requires c = let l : length (set c.args.words.now c.args.at.starts 0) ≡ length c.args.words.now = length-set c.args.words.now c.args.at.starts 0 in
     omega arith
 
-pub fill_words-requires-2 : goal.fill_words-requires-2
-fill_words-requires-2 c = let l : length (set c.args.words.now c.args.at.starts 0) ≡ length c.args.words.now = length-set c.args.words.now c.args.at.starts 0 in
-    omega (arith, c.fill_words.auto.words)
-
-pub shape_of-words : goal.shape_of-words
-shape_of-words c = c.fill_words-2.auto.words ∙ c.fill_words.auto.words ∙ length-set c.args.words.now c.args.at.starts 0
-
 pub returns : goal.returns
 returns c = record { floats-are = rw (c.fill-2.ensures, c.fill.ensures); words_are = rw (c.fill_words-2.ensures, c.fill_words.ensures) }

@@ -7,7 +7,7 @@ use Rattle.dry.proofs.go.Goals as goal
 pub solve-s-requires : goal.solve-s-requires
 solve-s-requires c =
     let q = c.requires in
-    (q.0, solved-none c.args.plan _ _ _ q.0.ready q.0.standing q.1 _ c.at_x-x.ensures (search rules) _ c.copy_in.new.0 (search rules) c.copy_in.ensures, search rules)
+    (q.0, solved-none c.args.plan _ _ _ q.0.ready q.0.standing q.1 _ c.at_x-x.ensures (search rules) _ c.copy_in.new.to (search rules) c.copy_in.ensures, search rules)
 
 pub returns-then-s-eq0 : goal.returns-then-s-eq0
 returns-then-s-eq0 c =
@@ -17,9 +17,9 @@ returns-then-s-eq0 c =
 pub follow-requires : goal.follow-requires
 follow-requires c =
     let so = c.solve-s in
-    followable c.args.plan _ c.args.floats.now c.args.stand c.args.k so.result so.new.0 c.requires.0 so.ensures.0 so.ensures.1 c.settle.new.0 (search rules) c.settle.ensures c.if-s-eq0.false
+    followable c.args.plan _ c.args.floats.now c.args.stand c.args.k so.result so.new.0 c.requires.0 so.ensures.0 so.ensures.1 c.settle.new.scratch (search rules) c.settle.ensures c.if-s-eq0.false
 
 pub returns : goal.returns
 returns c =
     let so = c.solve-s in
-    followed-all c.args.plan _ c.args.floats.now c.args.stand c.args.k so.result so.new.0 c.requires.0 so.ensures.0 so.ensures.1 c.settle.new.0 (search rules) c.settle.ensures _ c.follow.ensures
+    followed-all c.args.plan _ c.args.floats.now c.args.stand c.args.k so.result so.new.0 c.requires.0 so.ensures.0 so.ensures.1 c.settle.new.scratch (search rules) c.settle.ensures _ c.follow.ensures

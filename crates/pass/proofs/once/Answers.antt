@@ -17,7 +17,7 @@ pub deliver-requires : goal.deliver-requires
 deliver-requires c =
     let q = c.requires in
     writable c.args.plan c.args.words.now c.args.stand c.args.floats.now c.args.path.now _ _ q.0 q.1 q.3
-    (stepped-length c.args.plan c.args.words.now c.args.stand c.args.floats.now c.step-d.new.0 c.step-d.result c.at_norms-f.result c.step-d.ensures) refl
+    (stepped-length c.args.plan c.args.words.now c.args.stand c.args.floats.now c.step-d.new.front c.step-d.result c.at_norms-f.result c.step-d.ensures) refl
 
 pub returns : goal.returns
 returns c = once_comes _ _ _ _ _ _ _ _ _ _ c.at_norms-f.ensures c.step-d.ensures c.deliver.ensures

@@ -199,3 +199,33 @@ returns c =
     (decided_second _ _ (c.triangles_fault-second.ensures ∙ ap₂ triangles_fault en e2) c.if-second-ne0.false
     (decided_second _ _ (c.neighbours_fault-third.ensures ∙ ap₂ neighbours_fault (et ∙ ap count e2) e3) c.if-third-ne0.false
     (c.tags_fault.ensures ∙ ap₂ tags_fault en (part_behind 4 k p3 ek ∙ ap (behind 4) e3))))
+
+pub slice_bounds-s2-start : goal.slice_bounds-s2-start
+slice_bounds-s2-start c =
+    let s = c.args.s.now in
+    let h1 : Head (over max_vertices) 16 s = vertices_head s (sym c.vertices_fault-first.ensures ∙ c.if-first-ne0.false) in
+    let n = c.count-n.result in
+    let en : n ≡ number 4 s = c.count-n.ensures in
+    omega arith
+
+pub slice_bounds-s3-start : goal.slice_bounds-s3-start
+slice_bounds-s3-start c =
+    let s = c.args.s.now in
+    let n = c.count-n.result in
+    let p2 = take (length s - (4 + 16 * n)) (drop (4 + 16 * n) s) in
+    let h2 : Head (over max_triangles) 12 p2 = triangles_head n p2 (sym c.triangles_fault-second.ensures ∙ c.if-second-ne0.false) in
+    let t = c.count-t.result in
+    let et : t ≡ number 4 p2 = c.count-t.ensures in
+    omega arith
+
+pub slice_bounds-tags_fault-start : goal.slice_bounds-tags_fault-start
+slice_bounds-tags_fault-start c =
+    let s = c.args.s.now in
+    let n = c.count-n.result in
+    let p2 = take (length s - (4 + 16 * n)) (drop (4 + 16 * n) s) in
+    let t = c.count-t.result in
+    let p3 = take (length p2 - (4 + 12 * t)) (drop (4 + 12 * t) p2) in
+    let h3 : Head (unlike (3 * t)) 4 p3 = neighbours_head t p3 (sym c.neighbours_fault-third.ensures ∙ c.if-third-ne0.false) in
+    let k = c.count-k.result in
+    let ek : k ≡ number 4 p3 = c.count-k.ensures in
+    omega arith

@@ -7,13 +7,13 @@ use Rattle.tracing.proofs.path.put_leaving.Reads as put-leaving-reads
 use Rattle.tracing.proofs.path.put_added.Goals as goal
 
 -- src/path.rt:187:1
-pub returns-in-Dull : goal.returns-in-Dull
-returns-in-Dull c = put_dull _ _ _ _ c.in-Dull.is
-
 -- src/path.rt:187:1
-pub returns-in-Stuck : goal.returns-in-Stuck
-returns-in-Stuck c = put_stuck _ _ _ _ c.in-Stuck.is
-
 -- src/path.rt:187:1
 pub returns-in-Leaves : goal.returns-in-Leaves
 returns-in-Leaves c = rw c.in-Leaves.is c.put_leaving.ensures
+
+pub returns-in-Dull : goal.returns-in-Dull
+returns-in-Dull c = put_dull c.args.room c.args.w c.args.path.now c.args.c c.in-Dull.is
+
+pub returns-in-Stuck : goal.returns-in-Stuck
+returns-in-Stuck c = put_stuck c.args.room c.args.w c.args.path.now c.args.c c.in-Stuck.is

@@ -36,3 +36,28 @@ returns c =
     let a = c.args in
     section_down _ _ a.out.now _ a.at a.n _ _ _ c.put_u32.ensures c.loop-i.invariant c.loop-i-test.false
     ∙ ap (placed a.out.now a.at) (section-same 1 a.n a.xs.now)
+
+pub overflow_add-out : goal.overflow_add-out
+overflow_add-out c =
+    let a = c.args in
+    let e : length c.put_u32.new.out ≡ length a.out.now = ap length c.put_u32.ensures ∙ length-placed a.out.now a.at _ in
+    omega arith
+
+pub overflow_add-out-in-loop-i : goal.overflow_add-out-in-loop-i
+overflow_add-out-in-loop-i c =
+    let a = c.args in
+    let e : length c.put_u32.new.out ≡ length a.out.now = ap length c.put_u32.ensures ∙ length-placed a.out.now a.at _ in
+    omega arith
+
+pub bounds-out-at : goal.bounds-out-at
+bounds-out-at c =
+    let a = c.args in
+    let e : length c.put_u32.new.out ≡ length a.out.now = ap length c.put_u32.ensures ∙ length-placed a.out.now a.at _ in
+    let l = c.loop-i in
+    omega arith
+
+pub shape_of-out : goal.shape_of-out
+shape_of-out c =
+    let a = c.args in
+    let e : length c.put_u32.new.out ≡ length a.out.now = ap length c.put_u32.ensures ∙ length-placed a.out.now a.at _ in
+    omega arith

@@ -37,3 +37,10 @@ pub shape_of-out : goal.shape_of-out
 shape_of-out c =
     let a = c.args in
     ap length c.put_u64.ensures ∙ length-placed _ _ _ ∙ length-set a.out.now a.at a.kind
+
+pub returns-in-Given : goal.returns-in-Given
+returns-in-Given c =
+    let a = c.args in
+    let v = c.in-Given.v in
+    subst (λ (z : Whole). PutsItem a.kind z a.at a.out.now (a.at + 9) c.put_u64.new.out) (sym c.in-Given.is)
+    (record { put = item_put a.out.now _ a.at a.kind v c.ranges.kind.fits c.put_u64.ensures; goes = omega arith })

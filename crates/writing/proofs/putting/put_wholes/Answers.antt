@@ -41,3 +41,28 @@ returns c =
     let a = c.args in
     section_down _ _ a.out.now _ a.at a.n _ _ _ c.put_u32.ensures c.loop-i.invariant c.loop-i-test.false
     ∙ ap (placed a.out.now a.at) (section-same 4 a.n a.xs.now)
+
+pub overflow_add-at : goal.overflow_add-at
+overflow_add-at c =
+    let a = c.args in
+    let e : length c.put_u32.new.out ≡ length a.out.now = ap length c.put_u32.ensures ∙ length-placed a.out.now a.at _ in
+    omega arith
+
+pub overflow_add-at-in-loop-i : goal.overflow_add-at-in-loop-i
+overflow_add-at-in-loop-i c =
+    let a = c.args in
+    let e : length c.put_u32.new.out ≡ length a.out.now = ap length c.put_u32.ensures ∙ length-placed a.out.now a.at _ in
+    omega arith
+
+pub put_u32-requires-in-loop-i : goal.put_u32-requires-in-loop-i
+put_u32-requires-in-loop-i c =
+    let a = c.args in
+    let e : length c.put_u32.new.out ≡ length a.out.now = ap length c.put_u32.ensures ∙ length-placed a.out.now a.at _ in
+    let l = c.loop-i in
+    omega arith
+
+pub shape_of-out : goal.shape_of-out
+shape_of-out c =
+    let a = c.args in
+    let e : length c.put_u32.new.out ≡ length a.out.now = ap length c.put_u32.ensures ∙ length-placed a.out.now a.at _ in
+    omega arith

@@ -10,3 +10,10 @@ use Rattle.writing.proofs.refusing.real_fault.Goals as goal
 
 pub returns-in-Absent : goal.returns-in-Absent
 returns-in-Absent c = none_refused ∙ ap (λ (z : Real). each setting_fault (real_setting (real_of c.args.kind) z)) (sym c.in-Absent.is)
+
+pub returns-in-Given : goal.returns-in-Given
+returns-in-Given c =
+    c.setting_fault.ensures
+    ∙ ap setting_fault c.real_of.ensures
+    ∙ one-refused _
+    ∙ ap (λ (z : Real). each setting_fault (real_setting (real_of c.args.kind) z)) (sym c.in-Given.is)
