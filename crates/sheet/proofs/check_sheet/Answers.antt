@@ -99,6 +99,17 @@ overflow_add-at-2 c =
     let p : Places s n t = places s n t m en et in
     omega arith
 
+pub slice_bounds-s5-start : goal.slice_bounds-s5-start
+slice_bounds-s5-start c =
+    let s = c.args.s.now in
+    let m : Mesh s = mesh s (sym c.mesh_fault-mesh.ensures ∙ c.if-mesh-ne0.false) in
+    let n = c.count-n.result in
+    let en : n ≡ number 4 s = c.count-n.ensures in
+    let t = c.u32_at-t.result in
+    let et : t ≡ number 4 (drop (4 + 16 * n) s) = c.u32_at-t.ensures in
+    let p : Places s n t = places s n t m en et in
+    omega arith
+
 pub slice_bounds-s5-count : goal.slice_bounds-s5-count
 slice_bounds-s5-count c =
     let s = c.args.s.now in
