@@ -35,7 +35,7 @@ use Rattle.work.specs.Layout.{at_x, at_gradients, at_norms, mesh_at}
 use Rattle.work.specs.Memory.{Stepped, set_out_step, graded, start_by, begin_step, crossing_of, crossed_stand, cross_step, next_of, step_on, Dry, dry}
 use Rattle.work.specs.Dry.{dry_of}
 use Rattle.work.specs.DryLaws.{start-front, dry-over}
-use Rattle.work.specs.Kinds.{SetsOut, found_in_lem, found_by, lost_by}
+use Rattle.work.specs.Kinds.{SetsOut, found_in, found_by, lost_by}
 use Rattle.work.specs.Ready.{Ready, Standing}
 use Rattle.work.specs.StandingLaws.{set_out_standing, on-standing}
 use Rattle.work.specs.StartedLaws.{set_out-same, start_is}
@@ -59,7 +59,7 @@ module _ (plan : Plan) (words : List ℕ) (floats b : List Float) (m : Mesh) (u 
   crossed-by stored s r g x em eg ex er =
       er ∙ ap (crossed_stand plan s) (ex ∙ ap (λ (y : Mesh). crossing_in b words y u rule plan.step g s.walk.position s.walk.triangle s.walk.edge) (sym em) ∙ ap (λ (h : Point). crossing_in b words m u rule plan.step h s.walk.position s.walk.triangle s.walk.edge) eg)
 
-pub started_by_lem : (plan : Plan) (words : List ℕ) (b : List Float) (m : Mesh) (u : ℕ) (s : Stand) (found : Start) (d : Step) → found ≡ found_in_lem b words m u plan.start
+pub started_by_lem : (plan : Plan) (words : List ℕ) (b : List Float) (m : Mesh) (u : ℕ) (s : Stand) (found : Start) (d : Step) → found ≡ found_in b words m u plan.start
     → SetsOut (set_out_step s [] (lost_by plan.start) found) d → d.stand ≡ started_by plan words b m u s
 started_by_lem plan words b m u s found d ef o = o.stand ∙ ap (λ (x : Start). (set_out_step s [] (lost_by plan.start) x).stand) ef
 
@@ -118,7 +118,7 @@ module _ (plan : Plan) (words : List ℕ) (floats b : List Float) (m : Mesh) (u 
 
   -- ---- the start pass
 
-  found_in_lem : (g : Given) → StartIn m.t (found_in_lem b words m u g)
+  found_in_lem : (g : Given) → StartIn m.t (found_in b words m u g)
   found_in_lem (Given.At p) = containing_in (vertices_of b m) (triangles_of words m) m.t p
   found_in_lem Given.Nothing = pick_start_in (vertices_of b m) (triangles_of words m) (neighbours_of words m) (tags_of words m) m.t (field_of b m u)
 
@@ -142,12 +142,12 @@ module _ (plan : Plan) (words : List ℕ) (floats b : List Float) (m : Mesh) (u 
   set_out_place s k Start.Nothing = refl
 
   pub started-place : (s : Stand) → (started_by plan words b m u s).place ≡ s.place + 1
-  started-place s = set_out_place s (lost_by plan.start) (found_in_lem b words m u plan.start)
+  started-place s = set_out_place s (lost_by plan.start) (found_in b words m u plan.start)
 
   pub started-going : (l : ℕ) (s : Stand) → Ground plan words l b m u → Standing plan s → (s.end ≡ 0 → ⊥) → (started_by plan words b m u s).walk.end ≡ 0 → Going plan (started_by plan words b m u s)
   started-going l s g st n z =
       let k : ℕ = lost_by plan.start in
-      let found : Start = found_in_lem b words m u plan.start in
+      let found : Start = found_in b words m u plan.start in
       record {
         standing = set_out_standing plan words s [] k found g.ready st (subst (λ (c : ℕ). StartIn c found) g.count (found_in_lem plan.start));
         solved = λ e. n (sym (set-out-end s k found) ∙ e);
@@ -155,7 +155,7 @@ module _ (plan : Plan) (words : List ℕ) (floats b : List Float) (m : Mesh) (u 
       }
 
   module _ (f : List Float) (s : Stand) (sh : Shows plan words b m u f) where
-    found-same : (g : Given) → found_by plan words f g ≡ found_in_lem b words m u g
+    found-same : (g : Given) → found_by plan words f g ≡ found_in b words m u g
     found-same (Given.At p) = cc (sh.count, sh.vertices, sh.triangles)
     found-same Given.Nothing = cc (sh.count, sh.vertices, sh.field, sh.triangles, sh.neighbours, sh.tags)
 
@@ -164,7 +164,7 @@ module _ (plan : Plan) (words : List ℕ) (floats b : List Float) (m : Mesh) (u 
         let k : ℕ = lost_by plan.start in
         ap (λ (x : Stepped). x.stand) (start_is plan words f s plan.start)
         ∙ ap (λ (x : Start). (set_out_step s (graded plan words f s) k x).stand) (found-same plan.start)
-        ∙ (set_out-same s (graded plan words f s) [] k (found_in_lem b words m u plan.start)).0
+        ∙ (set_out-same s (graded plan words f s) [] k (found_in b words m u plan.start)).0
 
     step-begins : s.walk.end ≡ 0 → (s.end ≡ 0 → ⊥) → s.walk.points ≡ 0 → step_on plan words f s ≡ start_by plan words f s plan.start
     unfolding step_on next_of begin_step

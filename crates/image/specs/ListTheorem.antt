@@ -179,7 +179,7 @@ module _ (c : Task) (facts : Facts c) where
   unfolding next_run run_of
   same-run (advance k) s rest w = rw (gone_at (advance k) s rest w)
   same-run (back k) s rest w = rw (gone_at (back k) s rest w)
-  same-run mark s rest w = rw (gone_at mark s rest w)
+  same-run mark s rest w = refl
   same-run return s rest w = rw (gone_at return s rest w)
 
   same-buffers : (call : Call) (s : Counter) (rest : Rest) → Within (last_place c) s

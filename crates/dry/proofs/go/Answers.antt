@@ -14,12 +14,7 @@ returns-then-s-eq0 c =
     let e = c.solve-s.ensures in
     solved-all c.args.plan _ _ _ _ _ _ c.requires.0 e.0 e.1 e.2 c.if-s-eq0.true
 
-pub follow-requires : goal.follow-requires
-follow-requires c =
-    let so = c.solve-s in
-    followable c.args.plan _ c.args.floats.now c.args.stand c.args.k so.result so.new.0 c.requires.0 so.ensures.0 so.ensures.1 c.settle.new.scratch (search rules) c.settle.ensures c.if-s-eq0.false
-
 pub returns : goal.returns
 returns c =
     let so = c.solve-s in
-    followed-all c.args.plan _ c.args.floats.now c.args.stand c.args.k so.result so.new.0 c.requires.0 so.ensures.0 so.ensures.1 c.settle.new.scratch (search rules) c.settle.ensures _ c.follow.ensures
+    followed-all c.args.plan _ c.args.floats.now c.args.stand c.args.k so.result so.new.copies c.requires.0 so.ensures.0 so.ensures.1 c.settle.new.scratch (search rules) c.settle.ensures _ c.follow.ensures

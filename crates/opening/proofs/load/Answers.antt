@@ -21,3 +21,15 @@ pub returns : goal.returns
 returns c =
     loaded _ _ c.requires.0 _ _ _ _ _ _ c.put_vertices.ensures c.put_numbers.ensures
     c.put_numbers-2.ensures c.put_tags.ensures
+
+pub slice_bounds-put_vertices-start : goal.slice_bounds-put_vertices-start
+slice_bounds-put_vertices-start c = omega (arith, (read-within c.requires.0).vertices)
+
+pub slice_bounds-put_numbers-start : goal.slice_bounds-put_numbers-start
+slice_bounds-put_numbers-start c = omega (arith, (read-within c.requires.0).triangles)
+
+pub slice_bounds-put_numbers-start-2 : goal.slice_bounds-put_numbers-start-2
+slice_bounds-put_numbers-start-2 c = omega (arith, (read-within c.requires.0).neighbours)
+
+pub slice_bounds-put_tags-start : goal.slice_bounds-put_tags-start
+slice_bounds-put_tags-start c = omega (arith, (read-within c.requires.0).tags)
