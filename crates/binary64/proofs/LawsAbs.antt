@@ -63,19 +63,19 @@ flat (pos zero) h = refl
 flat (pos (suc k)) h = absurd (omega (arith, mul-one (2 ^ suc k), pow-succ' 2 k, pow_pos k))
 flat (negsuc k) h = absurd (omega (arith, one-mul (2 ^ suc k), pow-succ' 2 k, pow_pos k))
 
-pub abs_at-most : (x : Float) → T (fits binary64 x) → le x plus_zero ≡ true → plus_zero ⊖ x ≡ abs_of x
+pub abs_at_most : (x : Float) → T (fits binary64 x) → le x plus_zero ≡ true → plus_zero ⊖ x ≡ abs_of x
 unfolding le sub abs_of of_bits fits
-abs_at-most nan t h = absurd (false≢true h)
-abs_at-most (inf true) t h = refl
-abs_at-most (inf false) t h = absurd (false≢true h)
-abs_at-most (fin s zero e) t h = subst (λ (d : ℤ). plus_zero ⊖ fin s 0 d ≡ fin false 0 d) (sym (flat e (eqb→eq (up e * down e) 1 t))) (zeros s)
+abs_at_most nan t h = absurd (false≢true h)
+abs_at_most (inf true) t h = refl
+abs_at_most (inf false) t h = absurd (false≢true h)
+abs_at_most (fin s zero e) t h = subst (λ (d : ℤ). plus_zero ⊖ fin s 0 d ≡ fin false 0 d) (sym (flat e (eqb→eq (up e * down e) 1 t))) (zeros s)
   where
     zeros : (s : Bool) → plus_zero ⊖ fin s 0 (pos 0) ≡ fin false 0 (pos 0)
     zeros true = refl
     zeros false = refl
-abs_at-most (fin true (suc m) e) t h =
+abs_at_most (fin true (suc m) e) t h =
     round_same binary64 false (0 * 1 * down e + suc m * up e * 1) (1 * down e) (suc m * up e) (down e) (mul-pos (zero-lt-suc 0) (down_pos e)) (down_pos e) (omega arith) ∙ round_own false m e t
-abs_at-most (fin false (suc m) e) t h = absurd (none (suc m * up e * 1) (down e) (mul-pos (mul-pos (zero-lt-suc m) (up_pos e)) (zero-lt-suc 0)) h)
+abs_at_most (fin false (suc m) e) t h = absurd (none (suc m * up e * 1) (down e) (mul-pos (mul-pos (zero-lt-suc m) (up_pos e)) (zero-lt-suc 0)) h)
   where
     none : (a d : ℕ) → 0 < a → ltb a (0 * d) || (eqb a (0 * d) && true) ≡ true → ⊥
     none a d p h = let z = zero-mul d in false≢true (rw (le-ltb a (0 * d) (omega arith), ne_eqb a (0 * d) (λ e. omega arith)) at h)

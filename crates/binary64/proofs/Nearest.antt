@@ -9,7 +9,7 @@ pub use Rattle.binary64.specs.RootTheorems.{root-infinity}
 use Rattle.binary64.specs.RootTheorems.{RootBetween, RootOnly}
 use Rattle.binary64.proofs.WholeRoot.{root-lt, whole_root-low, whole_root_high, whole_root-lt}
 use Rattle.binary64.proofs.Units.{units_is, units-next, units-at, units-after, between_only}
-use Rattle.binary64.proofs.Patterns.{pattern-range}
+use Rattle.binary64.proofs.Patterns.{pattern_range}
 use Rattle.binary64.proofs.RootLaws.{raised, root_of-lt, same_bits, of_some}
 
 -- ---- the two midpoints, in whole numbers
@@ -49,8 +49,8 @@ module _ (a q w n before at after : ℕ) (positive : 0 < w) (scaled : n ≡ a * 
           let s : before + at ≡ q * w = omega arith in
           lt_of_le_of_lt (le_of_eq (ap square s ∙ squared q)) (mul-lt-mul_of_pos_right (odd_square a q f odd l) (mul-pos positive positive))
 
-  pub below-upper : a < square (q + 1) → ((q + 1) / 2 + 1) * w ≤ after → n < square (at + after)
-  below-upper h f =
+  pub below_upper : a < square (q + 1) → ((q + 1) / 2 + 1) * w ≤ after → n < square (at + after)
+  below_upper h f =
       let m : (q + 1) * w ≤ (2 * ((q + 1) / 2) + 1) * w = mul-le-mul_right w (omega arith) in
       let s : (q + 1) * w ≤ at + after = omega arith in
       let t : a * (w * w) < square (q + 1) * (w * w) = mul-lt-mul_of_pos_right h (mul-pos positive positive) in
@@ -123,7 +123,7 @@ pattern_between n a q k h e =
     let t = h.short in
     let here : u ≡ c * 2 ^ k = units-at k c (omega arith) (omega arith) in (
       above_lower a q (2 ^ k) n b u f (pow_pos k) e here h.least h.four (units-before k c (omega arith)) (λ o. units-less k c (omega arith) (omega arith)),
-      below-upper a q (2 ^ k) n b u f (pow_pos k) e here h.most (units-after k c (omega arith) (omega arith)),
+      below_upper a q (2 ^ k) n b u f (pow_pos k) e here h.most (units-after k c (omega arith) (omega arith)),
     )
 
 between : (b m g : ℕ) → 2 ≤ g → 2 ^ 52 ≤ m → m < 2 ^ 53 → units b * 2 ^ 1024 ≡ m * 2 ^ g → Between b (root_pattern g m)
@@ -163,7 +163,7 @@ pub root-between : RootBetween
 root-between m e h =
     let x = fin false (suc m) e in
     let b = to_bits binary64 x in
-    let r = pattern-range x h (lt→ltb 0 (suc m) (omega arith)) in
+    let r = pattern_range x h (lt→ltb 0 (suc m) (omega arith)) in
     let s = fields_between b (b / 2 ^ 52) (b % 2 ^ 52) refl refl r.0 in
     let t = ap (to_bits binary64) (of_some x h b refl r.0 r.1) ∙ same_bits (root_of (b / 2 ^ 52) (b % 2 ^ 52)) (root_of-lt (b / 2 ^ 52) (b % 2 ^ 52) (omega arith)) in
     subst (λ (y : ℕ). Between b y) (sym t) s

@@ -91,15 +91,15 @@ module _ (x : Float) (h : T (fits binary64 x)) (p : T (positive x)) where
   read : x ≡ of_bits binary64 (to_bits binary64 x)
   read = sym (of_bits-to_bits binary64 x h)
 
-  not-other : (v : Float) → x ≡ v → positive v ≡ false → ⊥
-  not-other v e f = subst T (ap positive e ∙ f) p
+  not_other : (v : Float) → x ≡ v → positive v ≡ false → ⊥
+  not_other v e f = subst T (ap positive e ∙ f) p
 
-  pub pattern-range : (0 < to_bits binary64 x) × (to_bits binary64 x < 2047 * 2 ^ 52)
-  pattern-range =
+  pub pattern_range : (0 < to_bits binary64 x) × (to_bits binary64 x < 2047 * 2 ^ 52)
+  pattern_range =
       let b = to_bits binary64 x in
       let w : b < 2 ^ 64 = to_bits-lt binary64 x h in
-      let minus : ¬ (2 ^ 63 ≤ b) = λ l. not-other _ (read ∙ bits-minus b l w) (fields_minus ((b - 2 ^ 63) / 2 ^ 52) ((b - 2 ^ 63) % 2 ^ 52)) in
+      let minus : ¬ (2 ^ 63 ≤ b) = λ l. not_other _ (read ∙ bits-minus b l w) (fields_minus ((b - 2 ^ 63) / 2 ^ 52) ((b - 2 ^ 63) % 2 ^ 52)) in
       let plus : b < 2 ^ 63 = omega arith in
-      let top : ¬ (b / 2 ^ 52 ≡ 2047) = λ e. not-other _ (read ∙ bits-plus b plus ∙ ap (λ (f : ℕ). of_fields binary64 false f (b % 2 ^ 52)) e ∙ fields_top false (b % 2 ^ 52)) (top_none (eqb (b % 2 ^ 52) 0)) in
-      let none : ¬ (b ≡ 0) = λ e. not-other _ (read ∙ ap (of_bits binary64) e ∙ bits-plus 0 (omega arith) ∙ fields_zero false) refl in
+      let top : ¬ (b / 2 ^ 52 ≡ 2047) = λ e. not_other _ (read ∙ bits-plus b plus ∙ ap (λ (f : ℕ). of_fields binary64 false f (b % 2 ^ 52)) e ∙ fields_top false (b % 2 ^ 52)) (top_none (eqb (b % 2 ^ 52) 0)) in
+      let none : ¬ (b ≡ 0) = λ e. not_other _ (read ∙ ap (of_bits binary64) e ∙ bits-plus 0 (omega arith) ∙ fields_zero false) refl in
       omega arith

@@ -15,7 +15,7 @@ use lib.Ieee.Scale.{grid, round_val, round_under, normal_of_fraction}
 use Rattle.binary64.specs.Number.{quotient_up, ceil_count}
 use Rattle.binary64.specs.NumberLaws.{both}
 use Rattle.binary64.specs.Root.{root}
-use Rattle.binary64.proofs.RootOrder.{low, floor, bits-lt, lt→cross, lt→le, le-bits, bits_positive, lt-finite, lt-positive, rooted, root-under, root_over}
+use Rattle.binary64.proofs.RootOrder.{low, floor, bits-lt, lt→cross, lt→le, le-bits, bits_positive, lt-finite, lt-positive, rooted, root_under, root_over}
 
 -- ---- a quotient from n + 2^−e to n + 1 is rounded up to n + 1
 
@@ -79,16 +79,16 @@ module _ (n c : ℕ) (C : 0 < c) (normal : 53 ≤ size (n / c)) where
       let e : 2 ^ (30 + k) ≡ 2 ^ 30 * 2 ^ k = pow-add 2 30 k in
       le_trans (le_of_eq (rw e (omega arith))) r
 
-  near-above : 2 ^ 30 * (kept 53 n c * 2 ^ drop 53 n c * c) ≤ (2 ^ 30 + 1) * n
-  near-above =
+  near_above : 2 ^ 30 * (kept 53 n c * 2 ^ drop 53 n c * c) ≤ (2 ^ 30 + 1) * n
+  near_above =
       let u = c * 2 ^ drop 53 n c in
       let l : kept 53 n c * u ≤ suc (n / u) * u = mul-le-mul_right u (nearest-le (n / u) (compare (n % u * 2) u)) in
       let h : n / u * u ≤ n = div-mul-le_self n u in
       let d = leading in
       omega arith
 
-  near-below : (2 ^ 30 - 1) * n ≤ 2 ^ 30 * (kept 53 n c * 2 ^ drop 53 n c * c)
-  near-below =
+  near_below : (2 ^ 30 - 1) * n ≤ 2 ^ 30 * (kept 53 n c * 2 ^ drop 53 n c * c)
+  near_below =
       let u = c * 2 ^ drop 53 n c in
       let l : n / u * u ≤ kept 53 n c * u = mul-le-mul_right u (nearest-ge (n / u) (compare (n % u * 2) u)) in
       let h : n < suc (n / u) * u = (div-lt_iff_lt-mul (mul-pos C (pow_pos (drop 53 n c)))).0 (omega arith) in
@@ -97,15 +97,15 @@ module _ (n c : ℕ) (C : 0 < c) (normal : 53 ≤ size (n / c)) where
 
 -- d / e beside g / U, which is beside a / c
 module _ (U g d e a c : ℕ) (P : 0 < U) where
-  under-near : d * U ≤ g * e → 2 ^ 30 * (g * c) ≤ (2 ^ 30 + 1) * (a * U) → 2 ^ 30 * (d * c) ≤ (2 ^ 30 + 1) * (a * e)
-  under-near h k =
+  under_near : d * U ≤ g * e → 2 ^ 30 * (g * c) ≤ (2 ^ 30 + 1) * (a * U) → 2 ^ 30 * (d * c) ≤ (2 ^ 30 + 1) * (a * e)
+  under_near h k =
       let i : d * U * c ≤ g * e * c = mul-le-mul_right c h in
       let j : 2 ^ 30 * (g * c) * e ≤ (2 ^ 30 + 1) * (a * U) * e = mul-le-mul_right e k in
       let l : 2 ^ 30 * (d * c) * U ≤ (2 ^ 30 + 1) * (a * e) * U = omega arith in
       le_of_mul-le-mul_right l P
 
-  over-near : g * e ≤ d * U → (2 ^ 30 - 1) * (a * U) ≤ 2 ^ 30 * (g * c) → (2 ^ 30 - 1) * (a * e) ≤ 2 ^ 30 * (d * c)
-  over-near h k =
+  over_near : g * e ≤ d * U → (2 ^ 30 - 1) * (a * U) ≤ 2 ^ 30 * (g * c) → (2 ^ 30 - 1) * (a * e) ≤ 2 ^ 30 * (d * c)
+  over_near h k =
       let i : g * e * c ≤ d * U * c = mul-le-mul_right c h in
       let j : (2 ^ 30 - 1) * (a * U) * e ≤ 2 ^ 30 * (g * c) * e = mul-le-mul_right e k in
       let l : (2 ^ 30 - 1) * (a * e) * U ≤ 2 ^ 30 * (d * c) * U = omega arith in
@@ -188,8 +188,8 @@ product s k u v =
     (record {
       some = p;
       reaches = l;
-      under = λ d q i. under-near (2 ^ 1074) (grid binary64 a c) (num d) (den d) a c (pow_pos 1074) (values_of_le d z _ _ _ _ q p (own_value d q) w i) (near-above (a * 2 ^ 1074) c C n);
-      over = λ d q i. over-near (2 ^ 1074) (grid binary64 a c) (num d) (den d) a c (pow_pos 1074) (values_of_le z d _ _ _ _ p q w (own_value d q) i) (near-below (a * 2 ^ 1074) c C n);
+      under = λ d q i. under_near (2 ^ 1074) (grid binary64 a c) (num d) (den d) a c (pow_pos 1074) (values_of_le d z _ _ _ _ q p (own_value d q) w i) (near_above (a * 2 ^ 1074) c C n);
+      over = λ d q i. over_near (2 ^ 1074) (grid binary64 a c) (num d) (den d) a c (pow_pos 1074) (values_of_le z d _ _ _ _ p q w (own_value d q) i) (near_below (a * 2 ^ 1074) c C n);
     })
 
 -- ---- one piece: the root is no longer than the spacing
@@ -204,7 +204,7 @@ short-one x s l h k u t i j =
     let r = rooted x (mul binary64 s s) l h i j v.0 v.1 in
     let q = u.some in
     let d = root x in
-    let f : T (le d s) = root-under x s h k r.above q v.1 in
+    let f : T (le d s) = root_under x s h k r.above q v.1 in
     let e : T (le (of_bits binary64 floor) d) = subst (λ (z : Float). T (le (of_bits binary64 floor) z)) (sym r.is) (le-bits floor _ r.most r.least) in
     let p : T (positive d) = between (of_bits binary64 floor) d s floor_some q e f in
     let m : num d * den s ≤ num s * den d = le→cross d s p q f in
@@ -224,7 +224,7 @@ before n = fin false (n * 2 ^ 20 + (2 ^ 20 - 1)) (negsuc 19)
 pub record Window (n : ℕ) (low high : Float) : Type 0 where
   few : n ≤ 2 ^ 8
   low-factor : Factor low
-  high-factor : Factor high
+  high_factor : Factor high
   from : (n * 2 ^ 20 + 1) * den low ≤ num low * 2 ^ 20
   to : num high * 2 ^ 20 ≤ (n * 2 ^ 20 + (2 ^ 20 - 1)) * den high
 
@@ -247,7 +247,7 @@ window n a b p q A B some few u l m k =
     record {
       few = few;
       low-factor = record { some = P; least = omega arith; most = omega arith };
-      high-factor = record { some = Q; least = omega arith; most = omega arith };
+      high_factor = record { some = Q; least = omega arith; most = omega arith };
       from = omega arith;
       to = omega arith;
     }
@@ -264,15 +264,15 @@ third p q = window 2 (1024 * 2 ^ 52 + 2 ^ 31) (1024 * 2 ^ 52 + 2 ^ 51 - 2 ^ 31) 
 
 -- K / D is a constant, and B / A the root over the spacing
 module _ (n A B K D : ℕ) (few : n ≤ 2 ^ 8) (P : 0 < D) where
-  quotient-least : (2 ^ 30 - 1) * (K * A) ≤ 2 ^ 30 * (B * D) → (n * 2 ^ 20 + 1) * D ≤ K * 2 ^ 20 → (n * 2 ^ 21 + 1) * A ≤ B * 2 ^ 21
-  quotient-least h k =
+  quotient_least : (2 ^ 30 - 1) * (K * A) ≤ 2 ^ 30 * (B * D) → (n * 2 ^ 20 + 1) * D ≤ K * 2 ^ 20 → (n * 2 ^ 21 + 1) * A ≤ B * 2 ^ 21
+  quotient_least h k =
       let i : (n * 2 ^ 20 + 1) * D * A ≤ K * 2 ^ 20 * A = mul-le-mul_right A k in
       let j : n * (D * A) ≤ 2 ^ 8 * (D * A) = mul-le-mul_right (D * A) few in
       let l : (n * 2 ^ 21 + 1) * A * D ≤ B * 2 ^ 21 * D = omega arith in
       le_of_mul-le-mul_right l P
 
-  quotient-most : 2 ^ 30 * (B * D) ≤ (2 ^ 30 + 1) * (K * A) → K * 2 ^ 20 ≤ (n * 2 ^ 20 + (2 ^ 20 - 1)) * D → B ≤ (n + 1) * A
-  quotient-most h k =
+  quotient_most : 2 ^ 30 * (B * D) ≤ (2 ^ 30 + 1) * (K * A) → K * 2 ^ 20 ≤ (n * 2 ^ 20 + (2 ^ 20 - 1)) * D → B ≤ (n + 1) * A
+  quotient_most h k =
       let i : K * 2 ^ 20 * A ≤ (n * 2 ^ 20 + (2 ^ 20 - 1)) * D * A = mul-le-mul_right A k in
       let j : n * (D * A) ≤ 2 ^ 8 * (D * A) = mul-le-mul_right (D * A) few in
       let l : B * D ≤ (n + 1) * A * D = omega arith in
@@ -292,12 +292,12 @@ between_squares n x s low high h u w t =
     let a = lt-positive (mul binary64 y y) x (mul binary64 z z) (lt-finite (mul binary64 y y) x (above_of_le _ _ floor-squared o) v.0) v.0 v.1 in
     let d = root x in
     let f : T (le y d) = root_over x y h (mul-fits binary64 s low) a Y.some v.0 in
-    let g : T (le d z) = root-under x z h (mul-fits binary64 s high) a Z.some v.1 in
+    let g : T (le d z) = root_under x z h (mul-fits binary64 s high) a Z.some v.1 in
     let p = between y d z Y.some Z.some f g in
     let q = u.some in
     let A = num s * den d in
     let B = num d * den s in
     rw (div_is d s p q)
     (counted n 21 (omega arith) (omega arith) (lit≤ tt) B A (quotient_pos d s q)
-    (quotient-least n A B (num low) (den low) few (den_pos low) (le_trans (le_of_eq (omega arith)) (le_trans (Y.over d p f) (le_of_eq (omega arith)))) w.from)
-    (quotient-most n A B (num high) (den high) few (den_pos high) (le_trans (le_of_eq (omega arith)) (le_trans (Z.under d p g) (le_of_eq (omega arith)))) w.to))
+    (quotient_least n A B (num low) (den low) few (den_pos low) (le_trans (le_of_eq (omega arith)) (le_trans (Y.over d p f) (le_of_eq (omega arith)))) w.from)
+    (quotient_most n A B (num high) (den high) few (den_pos high) (le_trans (le_of_eq (omega arith)) (le_trans (Z.under d p g) (le_of_eq (omega arith)))) w.to))

@@ -37,14 +37,14 @@ module _ (operand q rest : ℕ) (h : operand < 2 ^ 54) (found : q * q + rest ≡
   near_by : (r k : ℕ) → r ≡ q + k + 1 → square (q + k) + (q + k) < q * q + rest → q * q + rest ≤ square (q + k) + 3 * (q + k) + 2 → r ≡ (whole_root 54 (operand * 2 ^ 54) + 1) / 2
   near_by r k e l u = e ∙ near (operand * 2 ^ 54) (operand * 2 ^ 52) (q + k) (omega arith) (shl_lt 54 54 h) (omega arith) (omega arith)
 
-  pub next-is : q < rest → rest ≤ 3 * q + 2 → q + 1 ≡ (whole_root 54 (operand * 2 ^ 54) + 1) / 2
-  next-is l u = near_by (q + 1) 0 (omega arith) (omega arith) (omega arith)
+  pub next_is : q < rest → rest ≤ 3 * q + 2 → q + 1 ≡ (whole_root 54 (operand * 2 ^ 54) + 1) / 2
+  next_is l u = near_by (q + 1) 0 (omega arith) (omega arith) (omega arith)
 
-  pub nearest-is : q < rest → rest ≤ 7 * q + 12 → q + 1 + pick (ltb (3 * q + 2) rest) 1 0 + pick (ltb (5 * q + 6) rest) 1 0 ≡ (whole_root 54 (operand * 2 ^ 54) + 1) / 2
-  nearest-is l u = go (ltb (3 * q + 2) rest) (ltb (5 * q + 6) rest) refl refl
+  pub nearest_is : q < rest → rest ≤ 7 * q + 12 → q + 1 + pick (ltb (3 * q + 2) rest) 1 0 + pick (ltb (5 * q + 6) rest) 1 0 ≡ (whole_root 54 (operand * 2 ^ 54) + 1) / 2
+  nearest_is l u = go (ltb (3 * q + 2) rest) (ltb (5 * q + 6) rest) refl refl
     where
       go : (a b : Bool) → ltb (3 * q + 2) rest ≡ a → ltb (5 * q + 6) rest ≡ b → q + 1 + pick a 1 0 + pick b 1 0 ≡ (whole_root 54 (operand * 2 ^ 54) + 1) / 2
-      go false false e f = let i = ltb-false (3 * q + 2) rest e in add-zero (q + 1 + 0) ∙ add-zero (q + 1) ∙ next-is l i
+      go false false e f = let i = ltb-false (3 * q + 2) rest e in add-zero (q + 1 + 0) ∙ add-zero (q + 1) ∙ next_is l i
       go false true e f = let i = ltb-false (3 * q + 2) rest e in let j = ltb-true (5 * q + 6) rest f in absurd (omega arith)
       go true false e f = let i = ltb-true (3 * q + 2) rest e in let j = ltb-false (5 * q + 6) rest f in near_by (q + 1 + 1 + 0) 1 (omega arith) (omega arith) (omega arith)
       go true true e f = let j = ltb-true (5 * q + 6) rest f in near_by (q + 1 + 1 + 1) 2 (omega arith) (omega arith) (omega arith)

@@ -170,14 +170,14 @@ module _ (x : Float) (h : T (fits binary64 x)) (b : ℕ) (is : to_bits binary64 
       let s = fields_some false (b / 2 ^ 52) (b % 2 ^ 52) (omega arith) (omega arith) in
       rw is at (some_plus x (subst (λ (v : Float). NonZero false v) (sym (read ∙ bits-plus b (omega arith))) s))
 
-  pub of-fields : (f r : ℕ) → b / 2 ^ 52 ≡ f → 0 < b → f < 2047 → r ≡ root_of f (b % 2 ^ 52) → of_bits binary64 r ≡ root x
-  of-fields f r d p l e = ap (of_bits binary64) (e ∙ ap (λ (y : ℕ). root_of y (b % 2 ^ 52)) (sym d)) ∙ sym (of_some p (omega arith))
+  pub of_fields_lem : (f r : ℕ) → b / 2 ^ 52 ≡ f → 0 < b → f < 2047 → r ≡ root_of f (b % 2 ^ 52) → of_bits binary64 r ≡ root x
+  of_fields_lem f r d p l e = ap (of_bits binary64) (e ∙ ap (λ (y : ℕ). root_of y (b % 2 ^ 52)) (sym d)) ∙ sym (of_some p (omega arith))
 
-  pub of-top : b / 2 ^ 52 ≡ 2047 → x ≡ root x
-  of-top f = top_plus x (eqb (b % 2 ^ 52) 0) (read ∙ bits-plus b (omega arith) ∙ rw f (fields_top false (b % 2 ^ 52)))
+  pub of_top : b / 2 ^ 52 ≡ 2047 → x ≡ root x
+  of_top f = top_plus x (eqb (b % 2 ^ 52) 0) (read ∙ bits-plus b (omega arith) ∙ rw f (fields_top false (b % 2 ^ 52)))
 
-  pub of-minus : 2 ^ 63 < b → root x ≡ nan
-  of-minus l = go (ltb ((b - 2 ^ 63) / 2 ^ 52) 2047) refl
+  pub of_minus : 2 ^ 63 < b → root x ≡ nan
+  of_minus l = go (ltb ((b - 2 ^ 63) / 2 ^ 52) 2047) refl
     where
       pattern : x ≡ of_fields binary64 true ((b - 2 ^ 63) / 2 ^ 52) ((b - 2 ^ 63) % 2 ^ 52)
       pattern = read ∙ bits-minus b (omega arith) wide

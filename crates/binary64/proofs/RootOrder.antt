@@ -11,7 +11,7 @@ use lib.Ieee.Positive.{num, den, den_pos, own_value, positive, above, above_of_l
 use Rattle.binary64.specs.NumberLaws.{both}
 use Rattle.binary64.specs.Root.{root, root_of, weight, units, square, Between}
 use Rattle.binary64.proofs.Units.{units_is, units-next, units_mono}
-use Rattle.binary64.proofs.Patterns.{bits-plus, pattern-range}
+use Rattle.binary64.proofs.Patterns.{bits-plus, pattern_range}
 use Rattle.binary64.proofs.RootLaws.{root_of-lt, same_bits, of_some}
 use Rattle.binary64.proofs.Nearest.{root-between, root-fits, root-infinity}
 
@@ -31,40 +31,40 @@ cross : (m n d e a b c : ℕ) → m * c ≡ a * d → n * c ≡ b * e → (m * e
 cross m n d e a b c p q = let x = ap (λ (z : ℕ). z * e) p in let y = ap (λ (z : ℕ). z * d) q in (omega arith, omega arith)
 
 module _ (a b c : ℕ) where
-  lt-of-values : (x y : Float) → HasValue x false a c → HasValue y false b c → a < b → lt x y ≡ true
+  lt_of_values : (x y : Float) → HasValue x false a c → HasValue y false b c → a < b → lt x y ≡ true
   unfolding lt
-  lt-of-values nan y p q h = absurd p
-  lt-of-values (inf s) y p q h = absurd p
-  lt-of-values (fin true m e) y p q h = absurd (true≢false p.0)
-  lt-of-values (fin false m e) nan p q h = absurd q
-  lt-of-values (fin false m e) (inf t) p q h = absurd q
-  lt-of-values (fin false m e) (fin true n d) p q h = absurd (true≢false q.0)
-  lt-of-values (fin false m e) (fin false n d) p q h =
+  lt_of_values nan y p q h = absurd p
+  lt_of_values (inf s) y p q h = absurd p
+  lt_of_values (fin true m e) y p q h = absurd (true≢false p.0)
+  lt_of_values (fin false m e) nan p q h = absurd q
+  lt_of_values (fin false m e) (inf t) p q h = absurd q
+  lt_of_values (fin false m e) (fin true n d) p q h = absurd (true≢false q.0)
+  lt_of_values (fin false m e) (fin false n d) p q h =
       let z = cross (m * up e) (n * up d) (down e) (down d) a b c p.1 q.1 in
       let l : a * (down e * down d) < b * (down e * down d) = mul-lt-mul_of_pos_right h (mul-pos (down_pos e) (down_pos d)) in
       let g : m * up e * down d * c < n * up d * down e * c = rw (z.0, z.1) l in
       lt-ltb _ _ (lt_of_mul-lt-mul_right c g)
 
-  values-of-lt : (x y : Float) → 0 < c → HasValue x false a c → HasValue y false b c → lt x y ≡ true → a < b
+  values_of-lt : (x y : Float) → 0 < c → HasValue x false a c → HasValue y false b c → lt x y ≡ true → a < b
   unfolding lt
-  values-of-lt nan y C p q h = absurd p
-  values-of-lt (inf s) y C p q h = absurd p
-  values-of-lt (fin true m e) y C p q h = absurd (true≢false p.0)
-  values-of-lt (fin false m e) nan C p q h = absurd q
-  values-of-lt (fin false m e) (inf t) C p q h = absurd q
-  values-of-lt (fin false m e) (fin true n d) C p q h = absurd (true≢false q.0)
-  values-of-lt (fin false m e) (fin false n d) C p q h =
+  values_of-lt nan y C p q h = absurd p
+  values_of-lt (inf s) y C p q h = absurd p
+  values_of-lt (fin true m e) y C p q h = absurd (true≢false p.0)
+  values_of-lt (fin false m e) nan C p q h = absurd q
+  values_of-lt (fin false m e) (inf t) C p q h = absurd q
+  values_of-lt (fin false m e) (fin true n d) C p q h = absurd (true≢false q.0)
+  values_of-lt (fin false m e) (fin false n d) C p q h =
       let z = cross (m * up e) (n * up d) (down e) (down d) a b c p.1 q.1 in
       let l : m * up e * down d * c < n * up d * down e * c = mul-lt-mul_of_pos_right (ltb-true _ _ h) C in
       lt_of_mul-lt-mul_right (down e * down d) (rw (z.0, z.1) at l)
 
 pub bits-lt : (a b : ℕ) → b < 2047 * 2 ^ 52 → a < b → lt (of_bits binary64 a) (of_bits binary64 b) ≡ true
 bits-lt a b l h =
-    lt-of-values (units a) (units b) (2 ^ 1074) _ _ (bits-value a (omega arith)) (bits-value b l) (lt_of_lt_of_le (units-next a) (units_mono (a + 1) b (omega arith)))
+    lt_of_values (units a) (units b) (2 ^ 1074) _ _ (bits-value a (omega arith)) (bits-value b l) (lt_of_lt_of_le (units-next a) (units_mono (a + 1) b (omega arith)))
 
 lt-bits : (a b : ℕ) → a < 2047 * 2 ^ 52 → b < 2047 * 2 ^ 52 → lt (of_bits binary64 a) (of_bits binary64 b) ≡ true → a < b
 lt-bits a b k l h =
-    let u = values-of-lt (units a) (units b) (2 ^ 1074) _ _ (pow_pos 1074) (bits-value a k) (bits-value b l) h in
+    let u = values_of-lt (units a) (units b) (2 ^ 1074) _ _ (pow_pos 1074) (bits-value a k) (bits-value b l) h in
     let n : ¬ (b ≤ a) = λ g. not-le_of_lt u (units_mono b a g) in
     omega arith
 
@@ -127,13 +127,13 @@ module _ (x : Float) (h : T (fits binary64 x)) (p : T (positive x)) (w : ℕ) wh
   pub root-at-most : 2 ^ 1074 * units (to_bits binary64 x) ≤ square (units w) → to_bits binary64 (root x) ≤ w
   root-at-most = at_most (2 ^ 1074) (units (to_bits binary64 x)) (to_bits binary64 (root x)) w (root_beside x h p).above
 
-  pub root-at-least : square (units w) ≤ 2 ^ 1074 * units (to_bits binary64 x) → w ≤ to_bits binary64 (root x)
-  root-at-least = at_least (2 ^ 1074) (units (to_bits binary64 x)) (to_bits binary64 (root x)) w (root_beside x h p).below
+  pub root-at_least : square (units w) ≤ 2 ^ 1074 * units (to_bits binary64 x) → w ≤ to_bits binary64 (root x)
+  root-at_least = at_least (2 ^ 1074) (units (to_bits binary64 x)) (to_bits binary64 (root x)) w (root_beside x h p).below
 
 root_range : (x : Float) → T (fits binary64 x) → T (positive x) → to_bits binary64 (root x) < 2047 * 2 ^ 52
 root_range x h p =
     let b = to_bits binary64 x in
-    let n = pattern-range x h p in
+    let n = pattern_range x h p in
     let l = root_of-lt (b / 2 ^ 52) (b % 2 ^ 52) (omega arith) in
     let t = ap (to_bits binary64) (of_some x h b refl n.0 n.1) ∙ same_bits (root_of (b / 2 ^ 52) (b % 2 ^ 52)) l in
     subst (λ (r : ℕ). r < 2047 * 2 ^ 52) (sym t) l
@@ -165,13 +165,13 @@ pub rooted : (x y : Float) (l : ℕ) → T (fits binary64 x) → low ≤ l → l
 rooted x y l h i j g k =
     let p = lt-positive (of_bits binary64 l) x y (bits_positive l (omega arith) j) g k in
     let b = to_bits binary64 x in
-    let n = pattern-range x h p in
+    let n = pattern_range x h p in
     let e : lt (of_bits binary64 l) (of_bits binary64 b) ≡ true = ap (lt (of_bits binary64 l)) (of_bits-to_bits binary64 x h) ∙ g in
     let m : l < b = lt-bits l b j n.1 e in
     record {
       above = p;
       is = sym (of_bits-to_bits binary64 (root x) (root-fits x h));
-      least = root-at-least x h p floor (le_trans floor-square (mul-le-mul_left (2 ^ 1074) (units_mono low b (omega arith))));
+      least = root-at_least x h p floor (le_trans floor-square (mul-le-mul_left (2 ^ 1074) (units_mono low b (omega arith))));
       most = root_range x h p;
     }
 
@@ -190,12 +190,12 @@ bits_exact b l = rw (units_is b (b / 2 ^ 52) (b % 2 ^ 52) refl refl) (fields_exa
 
 value : (x : Float) → T (fits binary64 x) → T (positive x) → HasValue x false (units (to_bits binary64 x)) (2 ^ 1074)
 value x h p =
-    subst (λ (v : Float). HasValue v false (units (to_bits binary64 x)) (2 ^ 1074)) (of_bits-to_bits binary64 x h) (bits-value (to_bits binary64 x) (pattern-range x h p).1)
+    subst (λ (v : Float). HasValue v false (units (to_bits binary64 x)) (2 ^ 1074)) (of_bits-to_bits binary64 x h) (bits-value (to_bits binary64 x) (pattern_range x h p).1)
 
 -- what is below the rounded square is not above the square itself, and what is above the one is not below the other
 module _ (x s : Float) (a b c : ℕ) (above : 0 < c) (p : T (positive x)) (q : T (positive s)) (u : HasValue x false a c) (v : HasValue s false b c) (own : HasValue (round binary64 false a c) false a c) where
-  square-reaches : lt x (mul binary64 s s) ≡ true → c * a ≤ b * b
-  square-reaches h =
+  square_reaches : lt x (mul binary64 s s) ≡ true → c * a ≤ b * b
+  square_reaches h =
       let y = mul binary64 s s in
       let z = round binary64 false a c in
       let n : ¬ (b * b < c * a) = λ g.
@@ -207,8 +207,8 @@ module _ (x s : Float) (a b c : ℕ) (above : 0 < c) (p : T (positive x)) (q : T
       not-le_of_lt (lt→cross x y p w h) (le→cross y x w p (le_trans_positive y z x w o p k d)) in
       omega arith
 
-  square-reached : lt (mul binary64 s s) x ≡ true → b * b ≤ c * a
-  square-reached h =
+  square_reached : lt (mul binary64 s s) x ≡ true → b * b ≤ c * a
+  square_reached h =
       let y = mul binary64 s s in
       let z = round binary64 false a c in
       let n : ¬ (c * a < b * b) = λ g.
@@ -230,19 +230,19 @@ le-of_bits x y h k l m =
     (subst (λ (z : Float). T (le (of_bits binary64 (to_bits binary64 x)) z)) (of_bits-to_bits binary64 y k) (le-bits (to_bits binary64 x) (to_bits binary64 y) l m))
 
 module _ (x w : Float) (h : T (fits binary64 x)) (k : T (fits binary64 w)) (p : T (positive x)) (q : T (positive w)) where
-  pub root-under : lt x (mul binary64 w w) ≡ true → T (le (root x) w)
-  root-under t =
+  pub root_under : lt x (mul binary64 w w) ≡ true → T (le (root x) w)
+  root_under t =
       let a = to_bits binary64 x in
       let b = to_bits binary64 w in
-      le-of_bits (root x) w (root-fits x h) k (pattern-range w k q).1
-      (root-at-most x h p b (square-reaches x w (units a) (units b) (2 ^ 1074) (pow_pos 1074) p q (value x h p) (value w k q) (bits_exact a (pattern-range x h p).1) t))
+      le-of_bits (root x) w (root-fits x h) k (pattern_range w k q).1
+      (root-at-most x h p b (square_reaches x w (units a) (units b) (2 ^ 1074) (pow_pos 1074) p q (value x h p) (value w k q) (bits_exact a (pattern_range x h p).1) t))
 
   pub root_over : lt (mul binary64 w w) x ≡ true → T (le w (root x))
   root_over t =
       let a = to_bits binary64 x in
       let b = to_bits binary64 w in
       le-of_bits w (root x) k (root-fits x h) (root_range x h p)
-      (root-at-least x h p b (square-reached x w (units a) (units b) (2 ^ 1074) (pow_pos 1074) p q (value x h p) (value w k q) (bits_exact a (pattern-range x h p).1) t))
+      (root-at_least x h p b (square_reached x w (units a) (units b) (2 ^ 1074) (pow_pos 1074) p q (value x h p) (value w k q) (bits_exact a (pattern_range x h p).1) t))
 
 -- ---- nearer than an infinite y
 

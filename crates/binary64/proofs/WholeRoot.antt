@@ -82,11 +82,11 @@ module _ (operand i m rem r : ℕ) (p : Partial operand i m rem r) (m' rem' r' :
   double : 2 ^ (i + 1) ≡ 2 * 2 ^ i
   double = let e = pow-add 2 i 1 in omega arith
 
-  pub partial-zero : rem' ≡ rem * 4 + m / 2 ^ 52 → rem' < 4 * r + 1 → r' ≡ r * 2 → Partial operand (i + 1) m' rem' r'
-  partial-zero e h d = let s = ap square d in omega (arith, quadruple, double)
+  pub partial_zero : rem' ≡ rem * 4 + m / 2 ^ 52 → rem' < 4 * r + 1 → r' ≡ r * 2 → Partial operand (i + 1) m' rem' r'
+  partial_zero e h d = let s = ap square d in omega (arith, quadruple, double)
 
-  pub partial-one : rem' + (4 * r + 1) ≡ rem * 4 + m / 2 ^ 52 → r' ≡ r * 2 + 1 → Partial operand (i + 1) m' rem' r'
-  partial-one e d = let s = ap square d in omega (arith, quadruple, double)
+  pub partial_one : rem' + (4 * r + 1) ≡ rem * 4 + m / 2 ^ 52 → r' ≡ r * 2 + 1 → Partial operand (i + 1) m' rem' r'
+  partial_one e d = let s = ap square d in omega (arith, quadruple, double)
 
 -- after 54 turns all digits are brought down, and the root is that of the operand followed by 54 zeros
 none_left : (w a n m : ℕ) → a * w + m ≡ n * (w * w) → m < w → a ≡ n * w

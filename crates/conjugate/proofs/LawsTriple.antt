@@ -6,7 +6,7 @@ use Prim.Native.Nat.{ℕ, ◌+◌, ◌≤◌, ◌<◌}
 use native.Mathlib.Omega.{arith}
 use lib.ListN.{length, get_or, set}
 use Rattle.stretch.specs.Stretch.{splice}
-use Rattle.stretch.specs.StretchLaws.{splice-nil, length-splice, get_or-splice-before, get_or-splice-after, set-splice-before, splice-comm, splice-splice-same}
+use Rattle.stretch.specs.StretchLaws.{splice_nil, length-splice, get_or-splice-before, get_or-splice-after, set-splice-before, splice_comm, splice-splice-same}
 use Rattle.stretch.specs.LoopLaws.{write_step}
 
 -- place k is outside the stretch of i from `at`
@@ -17,9 +17,9 @@ module _ {ℓ} {A : Type ℓ} where
   unfoldable pub triple : List A → ℕ → List A → ℕ → List A → ℕ → List A → List A
   triple s a u b v c w = splice (splice (splice s a u) b v) c w
 
-  pub triple-none : (s : List A) (a b c : ℕ) → s ≡ triple s a [] b [] c []
+  pub triple_none : (s : List A) (a b c : ℕ) → s ≡ triple s a [] b [] c []
   unfolding triple
-  triple-none s a b c = simp splice-nil
+  triple_none s a b c = simp splice_nil
 
   pub length-triple : (s : List A) (a : ℕ) (u : List A) (b : ℕ) (v : List A) (c : ℕ) (w : List A) → length (triple s a u b v c w) ≡ length s
   unfolding triple
@@ -28,11 +28,11 @@ module _ {ℓ} {A : Type ℓ} where
   more : (s : List A) (at i : ℕ) (u : List A) (x : A) → length u ≡ i → set (splice s at u) (at + i) x ≡ splice s at (u ++ (x ∷ []))
   more s at i u x e = write_step s (splice s at u) at i u x e refl
 
-  pub triple-step : (s l : List A) (a b c n i : ℕ) (u v w : List A) (x y z : A) → length u ≡ i → length v ≡ i → length w ≡ i → a + n ≤ b → b + n ≤ c → i < n
+  pub triple_step : (s l : List A) (a b c n i : ℕ) (u v w : List A) (x y z : A) → length u ≡ i → length v ≡ i → length w ≡ i → a + n ≤ b → b + n ≤ c → i < n
       → l ≡ triple s a u b v c w
       → set (set (set l (a + i) x) (b + i) y) (c + i) z ≡ triple s a (u ++ (x ∷ [])) b (v ++ (y ∷ [])) c (w ++ (z ∷ []))
   unfolding triple
-  triple-step s l a b c n i u v w x y z eu ev ew h k t p =
+  triple_step s l a b c n i u v w x y z eu ev ew h k t p =
       let u' : List A = u ++ (x ∷ []) in
       let v' : List A = v ++ (y ∷ []) in
       let first : set l (a + i) x ≡ splice (splice (splice s a u') b v) c w =
@@ -62,6 +62,6 @@ module _ {ℓ} {A : Type ℓ} where
       → triple (splice s c old) a u b v c w ≡ triple s a u b v c w
   unfolding triple
   triple-over s a u b v c w old ha hb e =
-      ap (λ (r : List A). splice (splice r b v) c w) (sym (splice-comm s a c u old ha))
-      ∙ ap (λ (r : List A). splice r c w) (sym (splice-comm (splice s a u) b c v old hb))
+      ap (λ (r : List A). splice (splice r b v) c w) (sym (splice_comm s a c u old ha))
+      ∙ ap (λ (r : List A). splice r c w) (sym (splice_comm (splice s a u) b c v old hb))
       ∙ splice-splice-same (splice (splice s a u) b v) c old w e

@@ -13,8 +13,8 @@ use Rattle.conjugate.specs.Placed.{answer_of}
 -- a sound matrix with its values in a buffer of l, and room for three vectors in one of k
 pub record Beside (words : List ℕ) (l : ℕ) (m : Csr) (k : ℕ) : Type 0 where
   pub sound : Sound words m
-  pub values-fit : m.vals + m.count ≤ l
-  pub vectors-fit : 3 * m.rows ≤ k
+  pub values_fit : m.vals + m.count ≤ l
+  pub vectors_fit : 3 * m.rows ≤ k
 
 -- the vectors of v, and the product of the matrix with p
 abbrev pub vectors_of : List Float → ℕ → Float → Solve

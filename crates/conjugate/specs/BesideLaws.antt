@@ -2,7 +2,7 @@
 use Rattle.std.specs.Prelude.{◌≡◌, refl, List, ℕ, ◌*◌, ◌≤◌, length, Float}
 use Rattle.std.proofs.Common.{◌∙◌, arith}
 use Rattle.stretch.specs.Stretch.{part, splice}
-use Rattle.stretch.specs.StretchLaws.{length_part, length-splice, part-splice-before, part-splice-after, part-splice-same}
+use Rattle.stretch.specs.StretchLaws.{length_part, length-splice, part_splice-before, part_splice-after, part_splice-same}
 use Rattle.sparse.specs.declared.Csr.{Csr}
 use Rattle.sparse.specs.Stored.{matrix}
 use Rattle.sparse.specs.ProductLaws.{length-rows_of}
@@ -12,9 +12,9 @@ use Rattle.conjugate.specs.Beside.{vectors_of, left_by, turn_beside}
 
 -- the vectors of u, one after the other
 pub record Vectored (l : List Float) (n : ℕ) (u : Solve) : Type 0 where
-  pub x-is : part l 0 n ≡ u.x
-  pub r-is : part l n n ≡ u.r
-  pub p-is : part l (2 * n) n ≡ u.p
+  pub x_is : part l 0 n ≡ u.x
+  pub r_is : part l n n ≡ u.r
+  pub p_is : part l (2 * n) n ≡ u.p
 
 pub length-left : (n : ℕ) (v : List Float) (t : Turn) → length (left_by n v t) ≡ length v
 unfolding left_by
@@ -24,28 +24,28 @@ length-left n v (moved u norm) = simp length-splice
 
 left_vectored : (n : ℕ) (v : List Float) (rs : Float) (t : Turn) → 3 * n ≤ length v → Long n (after (vectors_of v n rs) t) → Vectored (left_by n v t) n (after (vectors_of v n rs) t)
 unfolding left_by
-left_vectored n v rs halted h long = record { x-is = refl; r-is = refl; p-is = refl }
+left_vectored n v rs halted h long = record { x_is = refl; r_is = refl; p_is = refl }
 left_vectored n v rs (reached x r norm) h long =
-    let ex : length x ≡ n = long.x-long in
-    let er : length r ≡ n = long.r-long in
+    let ex : length x ≡ n = long.x_long in
+    let er : length r ≡ n = long.r_long in
     let e₁ : length (splice v 0 x) ≡ length v = length-splice v 0 x in
     record {
-      x-is = part-splice-before (splice v 0 x) n r 0 n (omega arith) ∙ part-splice-same v 0 x n ex (omega arith);
-      r-is = part-splice-same (splice v 0 x) n r n er (omega arith);
-      p-is = part-splice-after (splice v 0 x) n r (2 * n) n (omega arith) ∙ part-splice-after v 0 x (2 * n) n (omega arith);
+      x_is = part_splice-before (splice v 0 x) n r 0 n (omega arith) ∙ part_splice-same v 0 x n ex (omega arith);
+      r_is = part_splice-same (splice v 0 x) n r n er (omega arith);
+      p_is = part_splice-after (splice v 0 x) n r (2 * n) n (omega arith) ∙ part_splice-after v 0 x (2 * n) n (omega arith);
     }
 left_vectored n v rs (moved u norm) h long =
-    let ex : length u.x ≡ n = long.x-long in
-    let er : length u.r ≡ n = long.r-long in
-    let ep : length u.p ≡ n = long.p-long in
+    let ex : length u.x ≡ n = long.x_long in
+    let er : length u.r ≡ n = long.r_long in
+    let ep : length u.p ≡ n = long.p_long in
     let l₁ : List Float = splice v 0 u.x in
     let l₂ : List Float = splice l₁ n u.r in
     let e₁ : length l₁ ≡ length v = length-splice v 0 u.x in
     let e₂ : length l₂ ≡ length l₁ = length-splice l₁ n u.r in
     record {
-      x-is = part-splice-before l₂ (2 * n) u.p 0 n (omega arith) ∙ part-splice-before l₁ n u.r 0 n (omega arith) ∙ part-splice-same v 0 u.x n ex (omega arith);
-      r-is = part-splice-before l₂ (2 * n) u.p n n (omega arith) ∙ part-splice-same l₁ n u.r n er (omega arith);
-      p-is = part-splice-same l₂ (2 * n) u.p n ep (omega arith);
+      x_is = part_splice-before l₂ (2 * n) u.p 0 n (omega arith) ∙ part_splice-before l₁ n u.r 0 n (omega arith) ∙ part_splice-same v 0 u.x n ex (omega arith);
+      r_is = part_splice-before l₂ (2 * n) u.p n n (omega arith) ∙ part_splice-same l₁ n u.r n er (omega arith);
+      p_is = part_splice-same l₂ (2 * n) u.p n ep (omega arith);
     }
 
 -- what a pass leaves
@@ -53,5 +53,5 @@ pub passed_vectored : (words : List ℕ) (floats : List Float) (m : Csr) (v : Li
     → Vectored (left_by m.rows v (turn_beside words floats m v tiny tolerance rs)) m.rows (after (vectors_of v m.rows rs) (turn_beside words floats m v tiny tolerance rs))
 passed_vectored words floats m v tiny tolerance rs h =
     let n : ℕ = m.rows in
-    let long : Long n (vectors_of v n rs) = record { x-long = length_part v 0 n (omega arith); r-long = length_part v n n (omega arith); p-long = length_part v (2 * n) n (omega arith) } in
+    let long : Long n (vectors_of v n rs) = record { x_long = length_part v 0 n (omega arith); r_long = length_part v n n (omega arith); p_long = length_part v (2 * n) n (omega arith) } in
     left_vectored n v rs (turn_beside words floats m v tiny tolerance rs) h (after_long n tiny (matrix words floats m) tolerance (vectors_of v n rs) (length-rows_of words floats m n) long)

@@ -18,9 +18,9 @@ use Rattle.conjugate.specs.Solver.{Solve, Turn, halted, reached, moved, pass, be
 
 -- the vectors of n, one after the other in a buffer of l
 pub record InRow (l : ℕ) (at : Vectors) (n : ℕ) : Type 0 where
-  pub r-after : at.x + n ≤ at.r
-  pub p-after : at.r + n ≤ at.p
-  pub product-after : at.p + n ≤ at.product
+  pub r_after : at.x + n ≤ at.r
+  pub p_after : at.r + n ≤ at.p
+  pub product_after : at.p + n ≤ at.product
   pub ends : at.product + n ≤ l
 
 -- the stretch of k from b lies before the vectors, or after them
@@ -31,14 +31,14 @@ Outside at n b k = (b + k ≤ at.x) ⊎ (at.product + n ≤ b)
 pub record Laid (words : List ℕ) (l : ℕ) (m : Csr) (at : Vectors) : Type 0 where
   pub sound : Sound words m
   pub in_row : InRow l at m.rows
-  pub values-fit : m.vals + m.count ≤ l
-  pub values-outside : Outside at m.rows m.vals m.count
+  pub values_fit : m.vals + m.count ≤ l
+  pub values_outside : Outside at m.rows m.vals m.count
 
 -- the vectors, and the right side from b outside them
 pub record Reads (l : ℕ) (at : Vectors) (b n : ℕ) : Type 0 where
   pub in_row : InRow l at n
-  pub right-fits : b + n ≤ l
-  pub right-outside : Outside at n b n
+  pub right_fits : b + n ≤ l
+  pub right_outside : Outside at n b n
 
 -- all that place 0 needs
 pub record Starts (words : List ℕ) (l : ℕ) (m : Csr) (at : Vectors) (b : ℕ) : Type 0 where

@@ -10,7 +10,7 @@ use Rattle.binary64.specs.Constants.{plus_zero}
 use Rattle.binary64.specs.Number.{pick, abs_of}
 use Rattle.binary64.specs.Root.{root}
 use Rattle.stretch.specs.Vec.{dot, plus, less}
-use Rattle.stretch.specs.VecLaws.{length-zip}
+use Rattle.stretch.specs.VecLaws.{length_zip}
 use Rattle.sparse.specs.Sparse.{Entry, mat_vec}
 use Rattle.sparse.specs.ProductLaws.{length-mat_vec}
 use Rattle.conjugate.specs.Solver.{Solve, Turn, halted, reached, moved, pass, begun}
@@ -33,14 +33,14 @@ abbrev pub next_of : List (List Entry) → Solve → Solve
 next_of a s = record { x = next_x a s; r = next_r a s; p = zip_with (plus (next_sum a s ⊘ s.rs)) (next_r a s) s.p; rs = next_sum a s }
 
 module _ (tiny : Float) (a : List (List Entry)) (tolerance : Float) (s : Solve) where
-  pub pass-halted : lt (abs_of (pap_of a s)) tiny ≡ true → pass tiny a tolerance s ≡ halted
+  pub pass_halted : lt (abs_of (pap_of a s)) tiny ≡ true → pass tiny a tolerance s ≡ halted
   unfolding pass
-  pass-halted h = rw h
+  pass_halted h = rw h
 
-  pub pass-reached : lt (abs_of (pap_of a s)) tiny ≡ false → lt (root (next_sum a s)) tolerance ≡ true
+  pub pass_reached : lt (abs_of (pap_of a s)) tiny ≡ false → lt (root (next_sum a s)) tolerance ≡ true
       → pass tiny a tolerance s ≡ reached (next_x a s) (next_r a s) (root (next_sum a s))
   unfolding pass
-  pass-reached h k = rw (h, k)
+  pass_reached h k = rw (h, k)
 
   pub pass-moved : lt (abs_of (pap_of a s)) tiny ≡ false → lt (root (next_sum a s)) tolerance ≡ false → pass tiny a tolerance s ≡ moved (next_of a s) (root (next_sum a s))
   unfolding pass
@@ -49,9 +49,9 @@ module _ (tiny : Float) (a : List (List Entry)) (tolerance : Float) (s : Solve) 
 -- ---- lengths
 
 pub record Long (n : ℕ) (s : Solve) : Type 0 where
-  pub x-long : length s.x ≡ n
-  pub r-long : length s.r ≡ n
-  pub p-long : length s.p ≡ n
+  pub x_long : length s.x ≡ n
+  pub r_long : length s.r ≡ n
+  pub p_long : length s.p ≡ n
 
 -- the vectors after a pass from s
 abbrev pub after : Solve → Turn → Solve
@@ -60,19 +60,19 @@ after s (reached x r norm) = record { x = x; r = r; p = s.p; rs = s.rs }
 after s (moved t norm) = t
 
 zip_long : (f : Float → Float → Float) (n : ℕ) (us vs : List Float) → length us ≡ n → length vs ≡ n → length (zip_with f us vs) ≡ n
-zip_long f n us vs eu ev = length-zip f us vs (omega arith) ∙ eu
+zip_long f n us vs eu ev = length_zip f us vs (omega arith) ∙ eu
 
 pub begun_long : (n : ℕ) (a : List (List Entry)) (b : List Float) → length a ≡ n → length b ≡ n → Long n (begun a b)
 unfolding begun
 begun_long n a b ea eb =
     let x : List Float = replicate (length b) plus_zero in
     let e : length (zip_with (sub binary64) b (mat_vec a x)) ≡ n = zip_long (sub binary64) n b (mat_vec a x) eb (length-mat_vec a x ∙ ea) in
-    record { x-long = length-replicate (length b) plus_zero ∙ eb; r-long = e; p-long = e }
+    record { x_long = length-replicate (length b) plus_zero ∙ eb; r_long = e; p_long = e }
 
 picks_long : (n : ℕ) (c d : Bool) (s : Solve) (x r : List Float) (t : Solve) (norm : Float) → Long n s → length x ≡ n → length r ≡ n → Long n t
     → Long n (after s (pick c halted (pick d (reached x r norm) (moved t norm))))
 picks_long n true d s x r t norm l ex er lt = l
-picks_long n false true s x r t norm l ex er lt = record { x-long = ex; r-long = er; p-long = l.p-long }
+picks_long n false true s x r t norm l ex er lt = record { x_long = ex; r_long = er; p_long = l.p-long }
 picks_long n false false s x r t norm l ex er lt = lt
 
 pub after_long : (n : ℕ) (tiny : Float) (a : List (List Entry)) (tolerance : Float) (s : Solve) → length a ≡ n → Long n s → Long n (after s (pass tiny a tolerance s))
@@ -82,4 +82,4 @@ after_long n tiny a tolerance s ea l =
     let ex : length (next_x a s) ≡ n = zip_long (plus (s.rs ⊘ pap_of a s)) n s.x s.p l.x-long l.p-long in
     let er : length (next_r a s) ≡ n = zip_long (less (s.rs ⊘ pap_of a s)) n s.r q l.r-long (length-mat_vec a s.p ∙ ea) in
     let ep : length (next_of a s).p ≡ n = zip_long (plus (next_sum a s ⊘ s.rs)) n (next_r a s) s.p er l.p-long in
-    picks_long n (lt (abs_of (pap_of a s)) tiny) (lt (root (next_sum a s)) tolerance) s (next_x a s) (next_r a s) (next_of a s) (root (next_sum a s)) l ex er (record { x-long = ex; r-long = er; p-long = ep })
+    picks_long n (lt (abs_of (pap_of a s)) tiny) (lt (root (next_sum a s)) tolerance) s (next_x a s) (next_r a s) (next_of a s) (root (next_sum a s)) l ex er (record { x_long = ex; r_long = er; p_long = ep })

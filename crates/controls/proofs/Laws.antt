@@ -59,9 +59,9 @@ module _ (c : Call) (ns : List ℕ) (xs : List Float) (b : Buffers) where
   unfolding fault_in
   held_first k e n = e ∙ sym (then_first _ _ (λ z. n (e ∙ z)))
 
-  sound-call : fits ns xs ≡ true → flagged ns ≡ true → fault c (run_from ns xs) b ≡ fault_in c ns xs b
+  sound_call : fits ns xs ≡ true → flagged ns ≡ true → fault c (run_from ns xs) b ≡ fault_in c ns xs b
   unfolding fault_in fault
-  sound-call e f = rw (sound ns xs b e f)
+  sound_call e f = rw (sound ns xs b e f)
 
   refusing : (k : ℕ) → k ≡ fault_in c ns xs b → (k ≡ 0 → ⊥) → Called c ns xs b k ns xs b
   refusing k e n =
@@ -69,31 +69,31 @@ module _ (c : Call) (ns : List ℕ) (xs : List Float) (b : Buffers) where
       record { said = e; wholes = rw f; reals = rw f; held = rw f }
 
   -- the lists have not the places
-  pub call-unfit : fits ns xs ≡ false → Called c ns xs b 8 ns xs b
-  call-unfit e = refusing 8 (held_first 8 (unfit ns xs b e) (λ z. omega (arith, z))) (λ z. omega (arith, z))
+  pub call_unfit : fits ns xs ≡ false → Called c ns xs b 8 ns xs b
+  call_unfit e = refusing 8 (held_first 8 (unfit ns xs b e) (λ z. omega (arith, z))) (λ z. omega (arith, z))
 
   -- a flag is neither 0 nor 1
-  pub call-unflagged : fits ns xs ≡ true → flagged ns ≡ false → (k : ℕ) → k ≡ held_fault (run_from ns xs) b → Called c ns xs b (flag_fault k) ns xs b
-  call-unflagged e f k h = refusing (flag_fault k) (held_first (flag_fault k) (unflagged ns xs b e f k h) (flag_refuses k)) (flag_refuses k)
+  pub call_unflagged : fits ns xs ≡ true → flagged ns ≡ false → (k : ℕ) → k ≡ held_fault (run_from ns xs) b → Called c ns xs b (flag_fault k) ns xs b
+  call_unflagged e f k h = refusing (flag_fault k) (held_first (flag_fault k) (unflagged ns xs b e f k h) (flag_refuses k)) (flag_refuses k)
 
   module _ (e : fits ns xs ≡ true) (f : flagged ns ≡ true) {r : Run} (same : r ≡ run_from ns xs) {a : Answer} {b' : Buffers} (does : Does c r b a b') where
     d : Does c (run_from ns xs) b a b'
     d = rw (← same) does
 
     told : a.refused ≡ fault_in c ns xs b
-    told = d.said ∙ sound-call e f
+    told = d.said ∙ sound_call e f
 
     -- the call is refused
-    pub call-refused : (a.refused ≡ 0 → ⊥) → Called c ns xs b a.refused ns xs b'
+    pub call_refused : (a.refused ≡ 0 → ⊥) → Called c ns xs b a.refused ns xs b'
     unfolding buffers_after
-    call-refused n =
+    call_refused n =
         let g : eqb (fault c (run_from ns xs) b) 0 ≡ false = ne_eqb (fault c (run_from ns xs) b) 0 (λ z. n (d.said ∙ z)) in
         let unchanged : b' ≡ b = d.held ∙ rw g in
         rw unchanged (refusing a.refused told n)
 
     -- the call is made, and the record's numbers are put
-    pub call-made : a.refused ≡ 0 → (ns' : List ℕ) (xs' : List Float) → ns' ≡ wholes_run a.run ns → xs' ≡ reals_run a.run xs → Called c ns xs b a.refused ns' xs' b'
-    call-made z ns' xs' p q =
+    pub call_made : a.refused ≡ 0 → (ns' : List ℕ) (xs' : List Float) → ns' ≡ wholes_run a.run ns → xs' ≡ reals_run a.run xs → Called c ns xs b a.refused ns' xs' b'
+    call_made z ns' xs' p q =
         let g : fault_in c ns xs b ≡ 0 = sym told ∙ z in
         record {
           said = told;
@@ -125,41 +125,41 @@ refused_or_8 sheet b = go (parse sheet) (refuses sheet)
     go (accepted c) n = rw (by c (eqb (short (needs (task c)) (lengths_of b)) 0)) (space (lacking (needs (task c)) (lengths_of b)))
 
 module _ (sheet ns : List ℕ) (xs : List Float) (b : Buffers) where
-  open-refusing : (k : ℕ) → k ≡ open_fault_in sheet ns xs b → (k ≡ 0 → ⊥) → OpenedIn sheet ns xs b k ns xs b
-  open-refusing k e n =
+  open_refusing : (k : ℕ) → k ≡ open_fault_in sheet ns xs b → (k ≡ 0 → ⊥) → OpenedIn sheet ns xs b k ns xs b
+  open_refusing k e n =
       let f : eqb (open_fault_in sheet ns xs b) 0 ≡ false = ne_eqb (open_fault_in sheet ns xs b) 0 (λ z. n (e ∙ z)) in
       record { said = e; wholes = rw f; reals = rw f; held = rw f }
 
   -- the lists have not the places
-  pub open-unfit : fits ns xs ≡ false → (k : ℕ) → k ≡ refusal_or8 (checked_of (parse sheet)) → OpenedIn sheet ns xs b k ns xs b
+  pub open_unfit : fits ns xs ≡ false → (k : ℕ) → k ≡ refusal_or8 (checked_of (parse sheet)) → OpenedIn sheet ns xs b k ns xs b
   unfolding open_fault_in
-  open-unfit e k h =
+  open_unfit e k h =
       let g : k ≡ open_fault_in sheet ns xs b = h ∙ refused_or_8 sheet b ∙ rw e in
-      open-refusing k g (λ z. then-8 (opened sheet b).answer.refused (sym (refused_or_8 sheet b) ∙ sym h ∙ z))
+      open_refusing k g (λ z. then_8 (opened sheet b).answer.refused (sym (refused_or_8 sheet b) ∙ sym h ∙ z))
     where
-      then-8 : (j : ℕ) → (j then 8) ≡ 0 → ⊥
-      then-8 zero z = omega (arith, z)
-      then-8 (suc j) z = omega (arith, z)
+      then_8 : (j : ℕ) → (j then 8) ≡ 0 → ⊥
+      then_8 zero z = omega (arith, z)
+      then_8 (suc j) z = omega (arith, z)
 
   module _ (e : fits ns xs ≡ true) {a : Answer} {b' : Buffers} (o : Opens sheet b a b') where
-    told-open : a.refused ≡ open_fault_in sheet ns xs b
+    told_open : a.refused ≡ open_fault_in sheet ns xs b
     unfolding open_fault_in
-    told-open = ap (λ (x : Answer). x.refused) o.answer ∙ rw e (then-zero (opened sheet b).answer.refused)
+    told_open = ap (λ (x : Answer). x.refused) o.answer ∙ rw e (then_zero (opened sheet b).answer.refused)
       where
-        then-zero : (j : ℕ) → j ≡ (j then 0)
-        then-zero zero = refl
-        then-zero (suc j) = refl
+        then_zero : (j : ℕ) → j ≡ (j then 0)
+        then_zero zero = refl
+        then_zero (suc j) = refl
 
     -- the sheet or the space is refused
-    pub open-refused : (a.refused ≡ 0 → ⊥) → OpenedIn sheet ns xs b a.refused ns xs b'
-    open-refused n =
+    pub open_refused : (a.refused ≡ 0 → ⊥) → OpenedIn sheet ns xs b a.refused ns xs b'
+    open_refused n =
         let unchanged : b' ≡ b = ((replayed-refused sheet [] [] b a b' o n).refuses (λ z. n (ap (λ (x : Answer). x.refused) o.answer ∙ z))).2 in
-        rw unchanged (open-refusing a.refused told-open n)
+        rw unchanged (open_refusing a.refused told_open n)
 
     -- the run is open, and its record's numbers are put
     pub open_made : a.refused ≡ 0 → (ns' : List ℕ) (xs' : List Float) → ns' ≡ wholes_run a.run ns → xs' ≡ reals_run a.run xs → OpenedIn sheet ns xs b 0 ns' xs' b'
     open_made z ns' xs' p q =
-        let g : open_fault_in sheet ns xs b ≡ 0 = sym told-open ∙ z in
+        let g : open_fault_in sheet ns xs b ≡ 0 = sym told_open ∙ z in
         record {
           said = sym g;
           wholes = rw g (p ∙ ap (λ (x : Answer). wholes_run x.run ns) o.answer);
@@ -189,8 +189,8 @@ module _ (ns : List ℕ) (xs : List Float) (b : Buffers) (out : List Float) wher
         let g : length_fault_in ns xs b out ≡ 8 = late ∙ rw f in
         record { said = sym g; left = rw g }
 
-    pub length-made : 1 ≤ length out → (x : Float) → x ≡ length_of (points_of (run_from ns xs) b.path) → Measured ns xs b out 0 (set out 0 x)
-    length-made f x h =
+    pub length_made : 1 ≤ length out → (x : Float) → x ≡ length_of (points_of (run_from ns xs) b.path) → Measured ns xs b out 0 (set out 0 x)
+    length_made f x h =
         let g : length_fault_in ns xs b out ≡ 0 = late ∙ rw (le-leb 1 (length out) f) in
         record { said = sym g; left = rw (g, h) }
 
@@ -201,11 +201,11 @@ pub hand_places : (f : Bool) (k : ℕ) → (f && leb 2 k) ≡ true → 2 ≤ k
 hand_places f k e = leb-true 2 k (both f (leb 2 k) e).1
 
 module _ (at count : ℕ) (fit : Bool) (out : List ℕ) where
-  pub hand-refused : {f : Bool} → f ≡ fit → (f && leb 2 (length out)) ≡ false → HandedBy at count fit out 8 out
-  hand-refused s e = rw (← s) (record { said = rw e; left = rw e })
+  pub hand_refused : {f : Bool} → f ≡ fit → (f && leb 2 (length out)) ≡ false → HandedBy at count fit out 8 out
+  hand_refused s e = rw (← s) (record { said = rw e; left = rw e })
 
-  pub hand-made : {f : Bool} → f ≡ fit → (f && leb 2 (length out)) ≡ true → (start : ℕ) → start ≡ start_by at count → HandedBy at count fit out 0 (set (set out 0 start) 1 count)
-  hand-made s e start h = rw (← s) (record { said = rw e; left = rw (e, h) })
+  pub hand_made : {f : Bool} → f ≡ fit → (f && leb 2 (length out)) ≡ true → (start : ℕ) → start ≡ start_by at count → HandedBy at count fit out 0 (set (set out 0 start) 1 count)
+  hand_made s e start h = rw (← s) (record { said = rw e; left = rw (e, h) })
 
 -- ---- the space rule
 
@@ -238,31 +238,31 @@ asked n t limit room places h =
     nothing false k e = absurd (omega (arith, e))
 
 module _ (n t limit room places : ℕ) where
-  pub needed-counts : (leb n max_vertices && leb t max_triangles) ≡ false → 2 ≡ needed_by n t limit room places
+  pub needed_counts : (leb n max_vertices && leb t max_triangles) ≡ false → 2 ≡ needed_by n t limit room places
   unfolding needed_by
-  needed-counts e = rw e
+  needed_counts e = rw e
 
   module _ (e : (leb n max_vertices && leb t max_triangles) ≡ true) where
-    pub needed-settings : (leb limit max_limit && (leb 1 room && leb room max_room)) ≡ false → 7 ≡ needed_by n t limit room places
+    pub needed_settings : (leb limit max_limit && (leb 1 room && leb room max_room)) ≡ false → 7 ≡ needed_by n t limit room places
     unfolding needed_by
-    needed-settings f = rw (e, f)
+    needed_settings f = rw (e, f)
 
     module _ (f : (leb limit max_limit && (leb 1 room && leb room max_room)) ≡ true) where
-      pub needed-told : 3 ≤ places → 0 ≡ needed_by n t limit room places
+      pub needed_told : 3 ≤ places → 0 ≡ needed_by n t limit room places
       unfolding needed_by
-      needed-told h = rw (e, f, le-leb 3 places h)
+      needed_told h = rw (e, f, le-leb 3 places h)
 
-      pub needed-short : places < 3 → 8 ≡ needed_by n t limit room places
+      pub needed_short : places < 3 → 8 ≡ needed_by n t limit room places
       unfolding needed_by
-      needed-short h = rw (e, f, lt-leb 3 places h)
+      needed_short h = rw (e, f, lt-leb 3 places h)
 
 module _ (n t limit room : ℕ) (out : List ℕ) where
-  pub needed-refused : (k : ℕ) → k ≡ needed_fault n t limit room out → (k ≡ 0 → ⊥) → Needed n t limit room out k out
-  needed-refused k e z =
+  pub needed_refused : (k : ℕ) → k ≡ needed_fault n t limit room out → (k ≡ 0 → ⊥) → Needed n t limit room out k out
+  needed_refused k e z =
       let f : eqb (needed_fault n t limit room out) 0 ≡ false = ne_eqb (needed_fault n t limit room out) 0 (λ y. z (e ∙ y)) in
       record { said = e; left = rw f }
 
-  pub needed-made : {k : ℕ} → k ≡ needed_fault n t limit room out → k ≡ 0 → Needed n t limit room out 0 (set (set (set out 0 (float_space n t limit)) 1 (word_space n t)) 2 (path_space room))
-  needed-made e z =
+  pub needed_made : {k : ℕ} → k ≡ needed_fault n t limit room out → k ≡ 0 → Needed n t limit room out 0 (set (set (set out 0 (float_space n t limit)) 1 (word_space n t)) 2 (path_space room))
+  needed_made e z =
       let f : needed_fault n t limit room out ≡ 0 = sym e ∙ z in
       record { said = sym f; left = rw f }

@@ -3,7 +3,7 @@ use Rattle.std.specs.Prelude.{ℕ, zero, suc, ◌+◌, ◌*◌, ◌≤◌, Bool,
 use Rattle.std.proofs.Common.{arith, sym, ap, ◌∙◌, subst, eqb-true, leb-true, ne_eqb, length-take-le}
 use Rattle.binary64.specs.Number.{pick}
 use Rattle.stretch.specs.Stretch.{part}
-use Rattle.stretch.specs.StretchLaws.{length_part, part-zero}
+use Rattle.stretch.specs.StretchLaws.{length_part, part_zero}
 use Rattle.pde.specs.Path.{point_floats}
 use Rattle.format.specs.Content.{Content, max_vertices, max_triangles}
 use Rattle.format.specs.Refusal.{◌then◌}
@@ -16,13 +16,13 @@ use Rattle.work.specs.declared.Run.{Run}
 use Rattle.work.specs.Layout.{at_x, at_gradients, at_norms}
 use Rattle.image.specs.Calls.{Buffers, held_fault, fault, run_after, buffers_after}
 use Rattle.image.specs.Accepted.{then_none}
-use Rattle.image.specs.CallLaws.{refused-unchanged}
+use Rattle.image.specs.CallLaws.{refused_unchanged}
 use Rattle.image.specs.Lists.{Held, front, behind, performed, performs}
 use Rattle.image.specs.Parts.{within, counted, field_of, norms_of, gradients_of}
 use Rattle.image.specs.Points.{points_of}
 use Rattle.image.specs.Replay.{opened}
 use Rattle.image.specs.Shown.{lengths_of, machine, ListShown, HandedOut}
-use Rattle.image.specs.Theorem.{begun, lists-from-sheet, handed-from-sheet}
+use Rattle.image.specs.Theorem.{begun, lists_from_sheet, handed_from_sheet}
 use Rattle.records.specs.Numbers.{fits, flagged, run_from, wholes_run, reals_run}
 use Rattle.records.specs.NumberLaws.{Holds, put_holds}
 use Rattle.controls.specs.Controls.{held_fault_in, fault_in, open_fault_in, unless_refused, OpenedIn, Called, start_by, counted_at, field_at, norms_at, gradients_at}
@@ -32,30 +32,30 @@ use Rattle.controls.specs.Lists.{HeldIn, called_in, calls_in}
 
 module _ (r : Run) (ns : List ℕ) (xs : List Float) (h : Holds r ns xs) where
   -- what refuses the record refuses its numbers, and nothing else does
-  pub held-fault-in : (b : Buffers) → held_fault_in ns xs b ≡ held_fault r b
+  pub held_fault_in_lem : (b : Buffers) → held_fault_in ns xs b ≡ held_fault r b
   unfolding held_fault_in
-  held-fault-in b = rw (h.fit, h.flags, h.reads)
+  held_fault_in_lem b = rw (h.fit, h.flags, h.reads)
 
-  pub fault-in : (c : Call) (b : Buffers) → fault_in c ns xs b ≡ fault c r b
+  pub fault_in_lem : (c : Call) (b : Buffers) → fault_in c ns xs b ≡ fault c r b
   unfolding fault_in fault
-  fault-in c b = rw (held-fault-in b, h.reads)
+  fault_in_lem c b = rw (held_fault_in_lem b, h.reads)
 
   -- the lists after a call hold the record after it
-  pub called-holds : (c : Call) (b : Buffers)
+  pub called_holds : (c : Call) (b : Buffers)
       → Holds (run_after c r b) (unless_refused (fault_in c ns xs b) (wholes_run (run_after c (run_from ns xs) b) ns) ns) (unless_refused (fault_in c ns xs b) (reals_run (run_after c (run_from ns xs) b) xs) xs)
-  called-holds c b = rw (fault-in c b, h.reads) (go (fault c r b) refl)
+  called_holds c b = rw (fault_in_lem c b, h.reads) (go (fault c r b) refl)
     where
       go : (k : ℕ) → fault c r b ≡ k → Holds (run_after c r b) (pick (eqb k 0) (wholes_run (run_after c r b) ns) ns) (pick (eqb k 0) (reals_run (run_after c r b) xs) xs)
       go zero e = put_holds (run_after c r b) ns xs h.fit
-      go (suc k) e = rw (ne_eqb (suc k) 0 (λ z. omega (arith, z)), (refused-unchanged c r b (λ z. omega (arith, e, z))).0) h
+      go (suc k) e = rw (ne_eqb (suc k) 0 (λ z. omega (arith, z)), (refused_unchanged c r b (λ z. omega (arith, e, z))).0) h
 
   -- and the buffers are the call's
-  pub called-buffers : (c : Call) (b : Buffers) → unless_refused (fault_in c ns xs b) (buffers_after c (run_from ns xs) b) b ≡ buffers_after c r b
-  called-buffers c b = rw (fault-in c b, h.reads) (go (fault c r b) refl)
+  pub called_buffers : (c : Call) (b : Buffers) → unless_refused (fault_in c ns xs b) (buffers_after c (run_from ns xs) b) b ≡ buffers_after c r b
+  called_buffers c b = rw (fault_in_lem c b, h.reads) (go (fault c r b) refl)
     where
       go : (k : ℕ) → fault c r b ≡ k → pick (eqb k 0) (buffers_after c r b) b ≡ buffers_after c r b
       go zero e = refl
-      go (suc k) e = rw (ne_eqb (suc k) 0 (λ z. omega (arith, z))) (sym (refused-unchanged c r b (λ z. omega (arith, e, z))).1)
+      go (suc k) e = rw (ne_eqb (suc k) 0 (λ z. omega (arith, z))) (sym (refused_unchanged c r b (λ z. omega (arith, e, z))).1)
 
 -- ---- a list of calls
 
@@ -68,9 +68,9 @@ pub record Follows (h : Held) (n : HeldIn) : Type 0 where
 called_follows : (l : Lent) (h : Held) (n : HeldIn) → Follows h n → Follows (performed l h) (called_in l n)
 unfolding performed called_in
 called_follows l h n f = rw f.all (record {
-  holds = called-holds h.run n.wholes n.reals f.holds l.call (front l.space h.all);
-  all = ap (behind l.space h.all) (called-buffers h.run n.wholes n.reals f.holds l.call (front l.space h.all));
-  said = rw (f.said, fault-in h.run n.wholes n.reals f.holds l.call (front l.space h.all));
+  holds = called_holds h.run n.wholes n.reals f.holds l.call (front l.space h.all);
+  all = ap (behind l.space h.all) (called_buffers h.run n.wholes n.reals f.holds l.call (front l.space h.all));
+  said = rw (f.said, fault_in_lem h.run n.wholes n.reals f.holds l.call (front l.space h.all));
 })
 
 -- Whatever list of calls is made on the numbers of a record, and whatever is lent, refusals and buffers are those of the calls on the record, and the numbers are its record's.
@@ -128,17 +128,17 @@ opened_calls_follow sheet ns xs b e ls =
     calls_follow ls (begun (opened sheet b).answer.run (opened sheet b).all) (begun_in sheet ns xs b) (record { holds = (opened_holds sheet ns xs b e).1; all = refl; said = refl })
 
 module _ (sheet : List ℕ) (h : Bytes sheet) (ns : List ℕ) (xs : List Float) (b : Buffers) (c : Content) (e : parse sheet ≡ accepted c) (o : open_fault_in sheet ns xs b ≡ 0) (ls : List Lent) where
-  as-performed : held_of (calls_in ls (begun_in sheet ns xs b)) ≡ performs ls (begun (opened sheet b).answer.run (opened sheet b).all)
-  as-performed = follows_is (performs ls (begun (opened sheet b).answer.run (opened sheet b).all)) (calls_in ls (begun_in sheet ns xs b)) (opened_calls_follow sheet ns xs b o ls)
+  as_performed : held_of (calls_in ls (begun_in sheet ns xs b)) ≡ performs ls (begun (opened sheet b).answer.run (opened sheet b).all)
+  as_performed = follows_is (performs ls (begun (opened sheet b).answer.run (opened sheet b).all)) (calls_in ls (begun_in sheet ns xs b)) (opened_calls_follow sheet ns xs b o ls)
 
-  -- refusals, place and passes are the counter machine's, and what is shown is the uninterrupted run's, as `lists-from-sheet` says of the record
-  pub lists-under-c : ListShown (task c) (machine (task c) (lengths_of b) ls) (held_of (calls_in ls (begun_in sheet ns xs b)))
-  lists-under-c = rw as-performed (lists-from-sheet sheet h b c e (opened_holds sheet ns xs b o).0 ls)
+  -- refusals, place and passes are the counter machine's, and what is shown is the uninterrupted run's, as `lists_from_sheet` says of the record
+  pub lists_under_c : ListShown (task c) (machine (task c) (lengths_of b) ls) (held_of (calls_in ls (begun_in sheet ns xs b)))
+  lists_under_c = rw as_performed (lists_from_sheet sheet h b c e (opened_holds sheet ns xs b o).0 ls)
 
   -- and the parts that are handed out are its field, norms, gradients and points
-  pub handed-under-c : HandedOut (task c) (machine (task c) (lengths_of b) ls).counter (held_of (calls_in ls (begun_in sheet ns xs b))).run (held_of (calls_in ls (begun_in sheet ns xs b))).all
-  handed-under-c =
-      subst (λ (x : Held). HandedOut (task c) (machine (task c) (lengths_of b) ls).counter x.run x.all) (sym as-performed) (handed-from-sheet sheet h b c e (opened_holds sheet ns xs b o).0 ls)
+  pub handed_under_c : HandedOut (task c) (machine (task c) (lengths_of b) ls).counter (held_of (calls_in ls (begun_in sheet ns xs b))).run (held_of (calls_in ls (begun_in sheet ns xs b))).all
+  handed_under_c =
+      subst (λ (x : Held). HandedOut (task c) (machine (task c) (lengths_of b) ls).counter x.run x.all) (sym as_performed) (handed_from_sheet sheet h b c e (opened_holds sheet ns xs b o).0 ls)
 
 -- ---- what is handed out
 
@@ -147,7 +147,7 @@ found : (floats : List Float) (at count : ℕ) → at + count ≤ length floats 
 found floats at count fit = rw (length_part floats at count fit) (go count)
   where
     go : (count : ℕ) → part floats (start_by at count) count ≡ part floats at count
-    go zero = part-zero floats 0 ∙ sym (part-zero floats at)
+    go zero = part_zero floats 0 ∙ sym (part_zero floats at)
     go (suc k) = rw (ne_eqb (suc k) 0 (λ z. omega (arith, z)))
 
 counted_found : (p : Plan) (floats : List Float) (at count : ℕ) → part floats (start_by (counted_at p at) (length (counted p (within floats at count)))) (length (counted p (within floats at count))) ≡ counted p (within floats at count)
@@ -159,22 +159,22 @@ counted_found p floats at count = go (leb p.n max_vertices) (leb p.t max_triangl
 
     go : (a b w : Bool) → (w ≡ true → at + count ≤ length floats) → part floats (start_by (pick (a && b) at 0) (length (shown a b w))) (length (shown a b w)) ≡ shown a b w
     go true true true h = found floats at count (h refl)
-    go true true false h = part-zero floats 0
-    go true false w h = part-zero floats 0
-    go false b w h = part-zero floats 0
+    go true true false h = part_zero floats 0
+    go true false w h = part_zero floats 0
+    go false b w h = part_zero floats 0
 
 module _ (r : Run) (floats : List Float) where
   pub field_found : part floats (start_by (field_at r.plan) (length (field_of r floats))) (length (field_of r floats)) ≡ field_of r floats
   unfolding field_of field_at
   field_found = counted_found r.plan floats (at_x r.plan.n r.plan.t) r.plan.n
 
-  pub norms-found : part floats (start_by (norms_at r.plan) (length (norms_of r floats))) (length (norms_of r floats)) ≡ norms_of r floats
+  pub norms_found : part floats (start_by (norms_at r.plan) (length (norms_of r floats))) (length (norms_of r floats)) ≡ norms_of r floats
   unfolding norms_of norms_at
-  norms-found = counted_found r.plan floats (at_norms r.plan.n r.plan.t) r.stand.norms
+  norms_found = counted_found r.plan floats (at_norms r.plan.n r.plan.t) r.stand.norms
 
-  pub gradients-found : part floats (start_by (gradients_at r.plan) (length (gradients_of r floats))) (length (gradients_of r floats)) ≡ gradients_of r floats
+  pub gradients_found : part floats (start_by (gradients_at r.plan) (length (gradients_of r floats))) (length (gradients_of r floats)) ≡ gradients_of r floats
   unfolding gradients_of gradients_at
-  gradients-found = counted_found r.plan floats (at_gradients r.plan.n r.plan.t) (2 * r.plan.t)
+  gradients_found = counted_found r.plan floats (at_gradients r.plan.n r.plan.t) (2 * r.plan.t)
 
 -- points stand in front
 pub points_found : (r : Run) (path : List Float) → part path (start_by 0 (length (points_of r path))) (length (points_of r path)) ≡ points_of r path

@@ -8,7 +8,7 @@ use borrow.Author.Tests.{eq-eqb, ne_eqb}
 use lib.ListN.{length}
 use lib.Ieee.{Float}
 use Rattle.stretch.specs.Stretch.{part, splice}
-use Rattle.stretch.specs.StretchLaws.{length_part, length-splice, part-of-take, part-splice-after, part-splice-same}
+use Rattle.stretch.specs.StretchLaws.{length_part, length-splice, part_of_take, part_splice-after, part_splice-same}
 use Rattle.mesh.specs.declared.Mesh.{Mesh}
 use Rattle.mesh.specs.Work.{vertices_of, triangles_of, neighbours_of, tags_of, Linked}
 use Rattle.pde.specs.declared.Start.{Start}
@@ -23,57 +23,57 @@ use Rattle.work.specs.Dry.{dry_of, dry_at, gain, Counts}
 use Rattle.work.specs.DryLaws.{dry_add, dry-over, dry_forth}
 use Rattle.dry.specs.Solving.{Solved}
 use Rattle.dry.specs.Crossing.{started_by, Ground, Going, Shows, Grades, Crossed, Settled, Scratched, Followable, Followed, anew}
-use Rattle.dry.proofs.LawsCrossing.{started-place, started-going, starts-once, shows-graded, grades-graded}
+use Rattle.dry.proofs.LawsCrossing.{started_place, started_going, starts_once, shows_graded, grades_graded}
 
 -- ---- the path, by x and the vertices in the scratch
 
 module _ (plan : Plan) (words : List ℕ) (floats b : List Float) (s : Stand) (k : ℕ) where
-  pub ground-on : (l l' : ℕ) → Followable plan words l b s k → at_norms plan.n plan.t ≤ l' → Ground plan words l' b (mesh_at plan.n plan.t) (2 * plan.n)
-  ground-on l l' h fits = record {
+  pub ground_on : (l l' : ℕ) → Followable plan words l b s k → at_norms plan.n plan.t ≤ l' → Ground plan words l' b (mesh_at plan.n plan.t) (2 * plan.n)
+  ground_on l l' h fits = record {
     ready = h.ready;
-    fielded = record { meshed = record { linked = h.ready.linked; vertices-fit = omega (arith, h.scratch-fits) }; field_fits = omega (arith, h.scratch-fits) };
+    fielded = record { meshed = record { linked = h.ready.linked; vertices_fit = omega (arith, h.scratch_fits) }; field_fits = omega (arith, h.scratch_fits) };
     mesh = refl;
     count = refl;
-    floats-fit = fits;
+    floats_fit = fits;
   }
 
-  pub going-from : (l : ℕ) → Followable plan words l b s k → (s.walk.points ≡ 0 → ⊥) → Going plan s
-  going-from l h n = record { standing = h.standing; solved = h.solved; some = omega arith }
+  pub going_from : (l : ℕ) → Followable plan words l b s k → (s.walk.points ≡ 0 → ⊥) → Going plan s
+  going_from l h n = record { standing = h.standing; solved = h.solved; some = omega arith }
 
   module _ (f : List Float) (sc : Scratched plan floats b f) where
-    shows-on : Shows plan words b (mesh_at plan.n plan.t) (2 * plan.n) f
+    shows_on : Shows plan words b (mesh_at plan.n plan.t) (2 * plan.n) f
     unfolding vertices_of triangles_of neighbours_of tags_of field_of
-    shows-on = record { count = refl; vertices = sc.vertices; field = sc.field; triangles = refl; neighbours = refl; tags = refl }
+    shows_on = record { count = refl; vertices = sc.vertices; field = sc.field; triangles = refl; neighbours = refl; tags = refl }
 
-    grades-on : Grades true plan words floats b (mesh_at plan.n plan.t) (2 * plan.n) f
+    grades_on : Grades true plan words floats b (mesh_at plan.n plan.t) (2 * plan.n) f
     unfolding gradients_of
-    grades-on = record { at = λ j h. ap (λ (gs : List Float). gradient_at gs j) sc.gradients }
+    grades_on = record { at = λ j h. ap (λ (gs : List Float). gradient_at gs j) sc.gradients }
 
-  pub follows-crossing : (r : Stand) → Crossed true plan words floats b (mesh_at plan.n plan.t) (2 * plan.n) s k r → Followed plan words floats b s k r
-  follows-crossing r c = record { is = λ f sc. sym (ap (λ (d : Dry). d.stand) (c.is f (shows-on f sc) (grades-on f sc))) }
+  pub follows_crossing : (r : Stand) → Crossed true plan words floats b (mesh_at plan.n plan.t) (2 * plan.n) s k r → Followed plan words floats b s k r
+  follows_crossing r c = record { is = λ f sc. sym (ap (λ (d : Dry). d.stand) (c.is f (shows_on f sc) (grades_on f sc))) }
 
-  pub follows-none : k ≡ 0 → Followed plan words floats b s k s
+  pub follows_none : k ≡ 0 → Followed plan words floats b s k s
   unfolding dry
-  follows-none e = rw e (record { is = λ f sc. refl })
+  follows_none e = rw e (record { is = λ f sc. refl })
 
   module _ (l : ℕ) (h : Followable plan words l b s k) (none : s.walk.points ≡ 0) (more : k ≡ 0 → ⊥) (s' : Stand) (is-started : s' ≡ started_by plan words b (mesh_at plan.n plan.t) (2 * plan.n) s) where
     -- the start pass
     once : (f : List Float) (sc : Scratched plan floats b f) → dry plan words 1 (dry_of f s) ≡ dry_of (graded plan words f s) s'
-    once f sc = starts-once plan words floats b (mesh_at plan.n plan.t) (2 * plan.n) f s (shows-on f sc) h.unended h.solved none ∙ ap (dry_of (graded plan words f s)) (sym is-started)
+    once f sc = starts_once plan words floats b (mesh_at plan.n plan.t) (2 * plan.n) f s (shows_on f sc) h.unended h.solved none ∙ ap (dry_of (graded plan words f s)) (sym is-started)
 
-    pub follows-lost : (s'.walk.end ≡ 0 → ⊥) → Followed plan words floats b s k s'
-    follows-lost n = record {
+    pub follows_lost : (s'.walk.end ≡ 0 → ⊥) → Followed plan words floats b s k s'
+    follows_lost n = record {
       is = λ f sc. sym (ap (λ (d : Dry). d.stand) (dry-over plan words (dry_of f s) 1 k (omega arith) (λ z. n (sym (ap (λ (d : Dry). d.stand.walk.end) (once f sc)) ∙ z)) ∙ once f sc));
     }
 
-    pub going-started : s'.walk.end ≡ 0 → Going plan s'
-    going-started z = subst (Going plan) (sym is-started) (started-going plan words floats b (mesh_at plan.n plan.t) (2 * plan.n) l s (ground-on l l h h.floats-fit) h.standing h.solved (rw is-started at z))
+    pub going_started : s'.walk.end ≡ 0 → Going plan s'
+    going_started z = subst (Going plan) (sym is-started) (started_going plan words floats b (mesh_at plan.n plan.t) (2 * plan.n) l s (ground_on l l h h.floats_fit) h.standing h.solved (rw is-started at z))
 
-    pub place-started : s'.place + (k - 1) < 1000000
-    place-started = omega (arith, h.near, ap (λ (x : Stand). x.place) is-started, started-place plan words floats b (mesh_at plan.n plan.t) (2 * plan.n) s)
+    pub place_started : s'.place + (k - 1) < 1000000
+    place_started = omega (arith, h.near, ap (λ (x : Stand). x.place) is-started, started_place plan words floats b (mesh_at plan.n plan.t) (2 * plan.n) s)
 
-    pub follows-started : (r : Stand) → Crossed false plan words floats b (mesh_at plan.n plan.t) (2 * plan.n) s' (k - 1) r → Followed plan words floats b s k r
-    follows-started r c = record { is = λ f sc. sym (ap (λ (d : Dry). d.stand) (all f sc)) }
+    pub follows_started : (r : Stand) → Crossed false plan words floats b (mesh_at plan.n plan.t) (2 * plan.n) s' (k - 1) r → Followed plan words floats b s k r
+    follows_started r c = record { is = λ f sc. sym (ap (λ (d : Dry). d.stand) (all f sc)) }
       where
         all : (f : List Float) (sc : Scratched plan floats b f) → dry plan words k (dry_of f s) ≡ dry_of (graded plan words f s) r
         all f sc =
@@ -81,7 +81,7 @@ module _ (plan : Plan) (words : List ℕ) (floats b : List Float) (s : Stand) (k
             ap (λ (j : ℕ). dry plan words j (dry_of f s)) e
             ∙ dry_add plan words (dry_of f s) 1 (k - 1)
             ∙ ap (dry plan words (k - 1)) (once f sc)
-            ∙ c.is (graded plan words f s) (shows-graded plan words floats b (mesh_at plan.n plan.t) (2 * plan.n) f s (shows-on f sc)) (grades-graded plan words floats b (mesh_at plan.n plan.t) (2 * plan.n) f s (shows-on f sc) h.ready sc.long)
+            ∙ c.is (graded plan words f s) (shows_graded plan words floats b (mesh_at plan.n plan.t) (2 * plan.n) f s (shows_on f sc)) (grades_graded plan words floats b (mesh_at plan.n plan.t) (2 * plan.n) f s (shows_on f sc) h.ready sc.long)
 
 -- ---- solving, and then the path
 
@@ -91,10 +91,10 @@ settled n floats v v' b h k e e' =
     let y : length (part floats 0 (2 * n)) ≡ 2 * n = length_part floats 0 (2 * n) (omega arith) in
     let l : length v' ≡ length v = ap length e ∙ length-splice v (2 * n) (part v 0 n) in
     record {
-      vertices = ap (λ (w : List Float). part w 0 (2 * n)) e' ∙ part-splice-same v' 0 (part floats 0 (2 * n)) (2 * n) y (omega arith);
+      vertices = ap (λ (w : List Float). part w 0 (2 * n)) e' ∙ part_splice-same v' 0 (part floats 0 (2 * n)) (2 * n) y (omega arith);
       field =
-          ap (λ (w : List Float). part w (2 * n) n) e' ∙ part-splice-after v' 0 (part floats 0 (2 * n)) (2 * n) n (omega arith) ∙ ap (λ (w : List Float). part w (2 * n) n) e
-          ∙ part-splice-same v (2 * n) (part v 0 n) n x (omega arith);
+          ap (λ (w : List Float). part w (2 * n) n) e' ∙ part_splice-after v' 0 (part floats 0 (2 * n)) (2 * n) n (omega arith) ∙ ap (λ (w : List Float). part w (2 * n) n) e
+          ∙ part_splice-same v (2 * n) (part v 0 n) n x (omega arith);
       long = ap length e' ∙ length-splice v' 0 (part floats 0 (2 * n)) ∙ l;
     }
 
@@ -106,8 +106,8 @@ module _ (plan : Plan) (words : List ℕ) (floats : List Float) (s : Stand) (k :
   module _ (b : List Float) (fits : 3 * plan.n ≤ length b) (is : Settled plan.n floats v b) where
     scratched : Scratched plan floats b (dry plan words (r.place - s.place) (dry_at plan floats s)).front
     scratched = record {
-      vertices = d.copied.vertices-same ∙ sym is.vertices;
-      field = d.copied.x-same ∙ sym is.field;
+      vertices = d.copied.vertices_same ∙ sym is.vertices;
+      field = d.copied.x_same ∙ sym is.field;
       gradients = d.copied.gradients-same;
       long = d.copied.long;
     }
@@ -119,12 +119,12 @@ module _ (plan : Plan) (words : List ℕ) (floats : List Float) (s : Stand) (k :
       unended = d.unended;
       solved = n;
       near = omega (arith, counts.near, d.place);
-      floats-fit = omega (arith, counts.floats-fit);
-      scratch-fits = fits;
+      floats_fit = omega (arith, counts.floats_fit);
+      scratch_fits = fits;
     }
 
-    pub followed-all : (r' : Stand) → Followed plan words floats b r (k - (r.place - s.place)) r' → r' ≡ (dry plan words k (dry_at plan floats s)).stand
-    followed-all r' w =
+    pub followed_all : (r' : Stand) → Followed plan words floats b r (k - (r.place - s.place)) r' → r' ≡ (dry plan words k (dry_at plan floats s)).stand
+    followed_all r' w =
         let i : ℕ = r.place - s.place in
         let e : i + (k - i) ≡ k = omega (arith, d.place) in
         let f : List Float = (dry plan words i (dry_at plan floats s)).front in
@@ -136,27 +136,27 @@ module _ (plan : Plan) (words : List ℕ) (floats : List Float) (s : Stand) (k :
 -- ---- the count
 
 module _ (plan : Plan) (words : List ℕ) (floats : List Float) (s : Stand) (k : ℕ) where
-  pub gained-none : (s.walk.end ≡ 0 → ⊥) → 0 ≡ gain plan words k floats s
+  pub gained_none : (s.walk.end ≡ 0 → ⊥) → 0 ≡ gain plan words k floats s
   unfolding dry
-  gained-none n =
+  gained_none n =
       let e : (dry plan words k (dry_at plan floats s)).stand.place ≡ s.place = ap (λ (d : Dry). d.stand.place) (dry-over plan words (dry_at plan floats s) 0 k (omega arith) n) in
       omega arith
 
   -- the start pass counts crossings from 0, whatever the count was
   module _ (unended : s.walk.end ≡ 0) (over : s.end ≡ 0 → ⊥) (none : s.walk.points ≡ 0) where
-    pub counts-anew : Counts plan words s k floats → Counts plan words (anew s) k floats
-    counts-anew c = record {
+    pub counts_anew : Counts plan words s k floats → Counts plan words (anew s) k floats
+    counts_anew c = record {
       ready = c.ready;
       standing = record {
-        norms-least = c.standing.norms-least;
+        norms_least = c.standing.norms_least;
         norms_most = c.standing.norms_most;
-        points-most = c.standing.points-most;
-        triangle-in = c.standing.triangle-in;
+        points_most = c.standing.points_most;
+        triangle_in = c.standing.triangle_in;
         edge_in = c.standing.edge_in;
         crossings_left = λ z h. absurd (omega (arith, none, h));
       };
       near = c.near;
-      floats-fit = c.floats-fit;
+      floats_fit = c.floats-fit;
     }
 
     set-anew : (f : List Float) (e : ℕ) (st : Start) → set_out_step (anew s) f e st ≡ set_out_step s f e st
@@ -168,60 +168,60 @@ module _ (plan : Plan) (words : List ℕ) (floats : List Float) (s : Stand) (k :
     start-anew f (Given.At p) = set-anew (graded plan words f s) 8 _
     start-anew f Given.Nothing = set-anew (graded plan words f s) 9 _
 
-    step-anew : (f : List Float) → step_on plan words f (anew s) ≡ step_on plan words f s
+    step_anew : (f : List Float) → step_on plan words f (anew s) ≡ step_on plan words f s
     unfolding step_on next_of begin_step
-    step-anew f = rw (eq-eqb s.walk.end 0 unended, ne_eqb s.end 0 over, eq-eqb s.walk.points 0 none) (start-anew f plan.start)
+    step_anew f = rw (eq-eqb s.walk.end 0 unended, ne_eqb s.end 0 over, eq-eqb s.walk.points 0 none) (start-anew f plan.start)
 
     dry-anew : (f : List Float) (j : ℕ) → dry plan words (suc j) (dry_of f (anew s)) ≡ dry plan words (suc j) (dry_of f s)
     unfolding dry
-    dry-anew f zero = ap (λ (x : Stepped). dry_of x.front x.stand) (step-anew f)
+    dry-anew f zero = ap (λ (x : Stepped). dry_of x.front x.stand) (step_anew f)
     dry-anew f (suc j) = ap (λ (d : Dry). dry_of (step_on plan words d.front d.stand).front (step_on plan words d.front d.stand).stand) (dry-anew f j)
 
-    place-anew : (f : List Float) (j : ℕ) → (dry plan words j (dry_of f (anew s))).stand.place ≡ (dry plan words j (dry_of f s)).stand.place
+    place_anew : (f : List Float) (j : ℕ) → (dry plan words j (dry_of f (anew s))).stand.place ≡ (dry plan words j (dry_of f s)).stand.place
     unfolding dry
-    place-anew f zero = refl
-    place-anew f (suc j) = ap (λ (d : Dry). d.stand.place) (dry-anew f j)
+    place_anew f zero = refl
+    place_anew f (suc j) = ap (λ (d : Dry). d.stand.place) (dry-anew f j)
 
-    anew-place : (r a : Stand) → a ≡ anew s → r ≡ (dry plan words k (dry_at plan floats a)).stand → r.place ≡ (dry plan words k (dry_at plan floats s)).stand.place
-    anew-place r a ea e = ap (λ (x : Stand). x.place) (e ∙ ap (λ (x : Stand). (dry plan words k (dry_at plan floats x)).stand) ea) ∙ place-anew (front_of plan floats) k
+    anew_place : (r a : Stand) → a ≡ anew s → r ≡ (dry plan words k (dry_at plan floats a)).stand → r.place ≡ (dry plan words k (dry_at plan floats s)).stand.place
+    anew_place r a ea e = ap (λ (x : Stand). x.place) (e ∙ ap (λ (x : Stand). (dry plan words k (dry_at plan floats x)).stand) ea) ∙ place_anew (front_of plan floats) k
 
-    pub gained-anew : (r a : Stand) → a ≡ anew s → r ≡ (dry plan words k (dry_at plan floats a)).stand → r.place - s.place ≡ gain plan words k floats s
-    gained-anew r a ea e = ap (λ (p : ℕ). p - s.place) (anew-place r a ea e)
+    pub gained_anew : (r a : Stand) → a ≡ anew s → r ≡ (dry plan words k (dry_at plan floats a)).stand → r.place - s.place ≡ gain plan words k floats s
+    gained_anew r a ea e = ap (λ (p : ℕ). p - s.place) (anew_place r a ea e)
 
-    pub gained-anew-forth : (r a : Stand) → a ≡ anew s → r ≡ (dry plan words k (dry_at plan floats a)).stand → s.place ≤ r.place
-    gained-anew-forth r a ea e = omega (arith, anew-place r a ea e, dry_forth plan words (dry_at plan floats s) k)
+    pub gained_anew_forth : (r a : Stand) → a ≡ anew s → r ≡ (dry plan words k (dry_at plan floats a)).stand → s.place ≤ r.place
+    gained_anew_forth r a ea e = omega (arith, anew_place r a ea e, dry_forth plan words (dry_at plan floats s) k)
 
   pub gained : (r : Stand) → r ≡ (dry plan words k (dry_at plan floats s)).stand → r.place - s.place ≡ gain plan words k floats s
   gained r e = ap (λ (x : Stand). x.place - s.place) e
 
-  pub gained-forth : (r : Stand) → r ≡ (dry plan words k (dry_at plan floats s)).stand → s.place ≤ r.place
-  gained-forth r e = omega (arith, ap (λ (x : Stand). x.place) e, dry_forth plan words (dry_at plan floats s) k)
+  pub gained_forth : (r : Stand) → r ≡ (dry plan words k (dry_at plan floats s)).stand → s.place ≤ r.place
+  gained_forth r e = omega (arith, ap (λ (x : Stand). x.place) e, dry_forth plan words (dry_at plan floats s) k)
 
   module _ (m : Mesh) (u : ℕ) (em : m ≡ mesh_at plan.n plan.t) (eu : u ≡ at_x plan.n plan.t) (counts : Counts plan words s k floats) where
-    pub ground-lent : Ground plan words (length floats) floats m u
-    ground-lent =
+    pub ground_lent : Ground plan words (length floats) floats m u
+    ground_lent =
         rw (em, eu) (record {
           ready = counts.ready;
-          fielded = record { meshed = record { linked = counts.ready.linked; vertices-fit = omega (arith, counts.floats-fit) }; field_fits = omega (arith, counts.floats-fit) };
+          fielded = record { meshed = record { linked = counts.ready.linked; vertices_fit = omega (arith, counts.floats_fit) }; field_fits = omega (arith, counts.floats_fit) };
           mesh = refl;
           count = refl;
-          floats-fit = omega (arith, counts.floats-fit);
+          floats_fit = omega (arith, counts.floats_fit);
         })
 
-    pub going-lent : (s.end ≡ 0 → ⊥) → (s.walk.points ≡ 0 → ⊥) → Going plan s
-    going-lent over some = record { standing = counts.standing; solved = over; some = omega (arith, some) }
+    pub going_lent : (s.end ≡ 0 → ⊥) → (s.walk.points ≡ 0 → ⊥) → Going plan s
+    going_lent over some = record { standing = counts.standing; solved = over; some = omega (arith, some) }
 
     front : (at n : ℕ) → at + n ≤ at_norms plan.n plan.t → part (front_of plan floats) at n ≡ part floats at n
-    front at n h = part-of-take floats (at_norms plan.n plan.t) at n h
+    front at n h = part_of_take floats (at_norms plan.n plan.t) at n h
 
-    shows-lent : Shows plan words floats m u (front_of plan floats)
+    shows_lent : Shows plan words floats m u (front_of plan floats)
     unfolding vertices_of triangles_of neighbours_of tags_of field_of
-    shows-lent =
+    shows_lent =
         rw (em, eu) (record { count = refl; vertices = front 0 (2 * plan.n) (omega arith); field = front (at_x plan.n plan.t) plan.n (omega arith); triangles = refl; neighbours = refl; tags = refl })
 
-    grades-lent : Grades true plan words floats floats m u (front_of plan floats)
+    grades_lent : Grades true plan words floats floats m u (front_of plan floats)
     unfolding gradients_of
-    grades-lent = rw em (record { at = λ j h. ap (λ (gs : List Float). gradient_at gs j) (front (at_gradients plan.n plan.t) (2 * plan.t) (omega arith)) })
+    grades_lent = rw em (record { at = λ j h. ap (λ (gs : List Float). gradient_at gs j) (front (at_gradients plan.n plan.t) (2 * plan.t) (omega arith)) })
 
     pub crossed-all : (r : Stand) → Crossed true plan words floats floats m u s k r → r ≡ (dry plan words k (dry_at plan floats s)).stand
-    crossed-all r c = sym (ap (λ (d : Dry). d.stand) (c.is (front_of plan floats) shows-lent grades-lent))
+    crossed-all r c = sym (ap (λ (d : Dry). d.stand) (c.is (front_of plan floats) shows_lent grades_lent))

@@ -13,8 +13,8 @@ use lib.Ieee.{Float, nan}
 use Rattle.binary64.specs.Constants.{plus_zero}
 use Rattle.binary64.specs.Number.{pick}
 use Rattle.stretch.specs.Stretch.{part, splice}
-use Rattle.stretch.specs.StretchLaws.{length_part, length-splice, part-zero, part-suc, part-part, part-of-take, part-splice-same, splice-comm}
-use Rattle.stretch.specs.LoopLaws.{write-none, write_step}
+use Rattle.stretch.specs.StretchLaws.{length_part, length-splice, part_zero, part_suc, part_part, part_of_take, part_splice-same, splice_comm}
+use Rattle.stretch.specs.LoopLaws.{write_none, write_step}
 use Rattle.sparse.specs.declared.Csr.{Csr}
 use Rattle.sparse.specs.Stored.{matrix}
 use Rattle.sparse.specs.ProductLaws.{length-rows_of, matrix_kept}
@@ -23,7 +23,7 @@ use Rattle.conjugate.specs.declared.Pass.{Pass}
 use Rattle.conjugate.specs.Solver.{Solve, Turn, halted, reached, moved}
 use Rattle.conjugate.specs.SolverLaws.{Long, after, after_long}
 use Rattle.conjugate.specs.Placed.{InRow, placed, stored_after, answer_of}
-use Rattle.conjugate.specs.PlacedLaws.{Holds, holds-placed, stored_placed}
+use Rattle.conjugate.specs.PlacedLaws.{Holds, holds_placed, stored_placed}
 use Rattle.conjugate.specs.Beside.{Beside, vectors_of, left_by, PassedBeside, turn_beside}
 use Rattle.conjugate.specs.BesideLaws.{Vectored, passed_vectored}
 use Rattle.pde.specs.declared.Walk.{Walk}
@@ -39,31 +39,31 @@ use Rattle.dry.specs.Solving.{turn_on, turned_stand, Solvable, Turns, Copied, So
 -- ---- a copy of one stretch of a buffer to another
 
 pub copy_none : (to from : List Float) (at src : ℕ) → to ≡ splice to at (part from src 0)
-copy_none to from at src = rw part-zero (write-none to at)
+copy_none to from at src = rw part_zero (write_none to at)
 
 pub copy_more : (to from l : List Float) (at src n i : ℕ) → src + n ≤ length from → i < n → l ≡ splice to at (part from src i)
     → set l (at + i) (get_or from (src + i) nan) ≡ splice to at (part from src (i + 1))
 copy_more to from l at src n i f h p =
     let k : src + i < length from = omega arith in
-    rw (add-one, part-suc from src i nan k) (write_step to l at i (part from src i) (get_or from (src + i) nan) (length_part from src i (omega arith)) p)
+    rw (add-one, part_suc from src i nan k) (write_step to l at i (part from src i) (get_or from (src + i) nan) (length_part from src i (omega arith)) p)
 
 -- ---- one pass
 
 pub solvable_beside : (plan : Plan) (words : List ℕ) (l k : ℕ) (m : Csr) (s : Stand) → Solvable plan words l k s → m ≡ matrix_at plan.n plan.t → Beside words l m k
-solvable_beside plan words l k m s h e = rw e (record { sound = h.ready.sound; values-fit = omega (arith, h.floats-fit); vectors-fit = h.copies-fit })
+solvable_beside plan words l k m s h e = rw e (record { sound = h.ready.sound; values_fit = omega (arith, h.floats_fit); vectors_fit = h.copies_fit })
 
 pub solvable_norms : {plan : Plan} {words : List ℕ} {l k : ℕ} {s : Stand} → Solvable plan words l k s → s.norms ≤ 100000
 solvable_norms {plan} {words} {l} {k} {s} h = omega (arith, unsolved_norms plan s h.standing h.solving, h.ready.limit-most)
 
 module _ (plan : Plan) (s r : Stand) (a : Pass) where
-  pub turned-halted : a ≡ Pass.Halted → r ≡ solved_stand s s.rs s.norms 2 → r ≡ turned_stand plan s a
-  turned-halted e h = rw e h
+  pub turned_halted : a ≡ Pass.Halted → r ≡ solved_stand s s.rs s.norms 2 → r ≡ turned_stand plan s a
+  turned_halted e h = rw e h
 
-  pub turned-reached : (norm : Float) → a ≡ Pass.Reached norm → r ≡ solved_stand s s.rs (s.norms + 1) 1 → r ≡ turned_stand plan s a
-  turned-reached norm e h = rw e h
+  pub turned_reached : (norm : Float) → a ≡ Pass.Reached norm → r ≡ solved_stand s s.rs (s.norms + 1) 1 → r ≡ turned_stand plan s a
+  turned_reached norm e h = rw e h
 
-  pub turned-moved : (rs norm : Float) (end : ℕ) → a ≡ Pass.Moved rs norm → end ≡ pick (leb plan.limit s.norms) 3 0 → r ≡ solved_stand s rs (s.norms + 1) end → r ≡ turned_stand plan s a
-  turned-moved rs norm end e ee h = rw e (h ∙ ap (solved_stand s rs (s.norms + 1)) ee)
+  pub turned_moved : (rs norm : Float) (end : ℕ) → a ≡ Pass.Moved rs norm → end ≡ pick (leb plan.limit s.norms) 3 0 → r ≡ solved_stand s rs (s.norms + 1) end → r ≡ turned_stand plan s a
+  turned_moved rs norm end e ee h = rw e (h ∙ ap (solved_stand s rs (s.norms + 1)) ee)
 
 pub turns : (plan : Plan) (words : List ℕ) (floats v l : List Float) (m : Csr) (s r : Stand) (answer : Pass) → m ≡ matrix_at plan.n plan.t
     → PassedBeside v l m.rows (turn_beside words floats m v flat plan.tolerance s.rs) answer → r ≡ turned_stand plan s answer → Turns plan words floats v s r l
@@ -92,7 +92,7 @@ turned_walk plan s (Pass.Moved rs norm) = refl
 
 module _ (plan : Plan) (f : List Float) (s : Stand) (long : length f ≡ at_norms plan.n plan.t) where
   row : InRow (length f) (vectors_at plan.n plan.t) plan.n
-  row = record { r-after = omega arith; p-after = omega arith; product-after = omega arith; ends = omega arith }
+  row = record { r_after = omega arith; p_after = omega arith; product_after = omega arith; ends = omega arith }
 
   front-placed : (t : Turn) → Long plan.n (after (vectors_in plan.n plan.t f s.rs) t)
       → (solved_step plan s f t).front ≡ placed plan.n f (vectors_at plan.n plan.t) (after (vectors_in plan.n plan.t f s.rs) t)
@@ -100,7 +100,7 @@ module _ (plan : Plan) (f : List Float) (s : Stand) (long : length f ≡ at_norm
   front-placed halted l = stored_placed f plan.n (vectors_at plan.n plan.t) s.rs halted row l
   front-placed (reached x r norm) l = stored_placed f plan.n (vectors_at plan.n plan.t) s.rs (reached x r norm) row l
   front-placed (moved u norm) l =
-      sym (splice-comm _ (at_p plan.n plan.t) (at_product plan.n plan.t) u.p (replicate plan.n plus_zero) (omega (arith, l.p-long)))
+      sym (splice_comm _ (at_p plan.n plan.t) (at_product plan.n plan.t) u.p (replicate plan.n plus_zero) (omega (arith, l.p-long)))
 
 -- ---- a pass on the front and on the copies
 
@@ -108,11 +108,11 @@ module _ (plan : Plan) (words : List ℕ) (f floats v : List Float) (s : Stand) 
   abbrev M : Csr
   M = matrix_at plan.n plan.t
 
-  vectors-same : vectors_in plan.n plan.t f s.rs ≡ vectors_of v plan.n s.rs
-  vectors-same = rw (c.x-same, c.r-same, c.p-same)
+  vectors_same : vectors_in plan.n plan.t f s.rs ≡ vectors_of v plan.n s.rs
+  vectors_same = rw (c.x-same, c.r-same, c.p-same)
 
-  turn-same : turn_of plan words f s ≡ turn_on plan words floats v s
-  turn-same = rw (c.matrix-same, vectors-same)
+  turn_same : turn_of plan words f s ≡ turn_on plan words floats v s
+  turn_same = rw (c.matrix-same, vectors_same)
 
   holds : Holds f (solved_step plan s f (turn_of plan words f s)).front plan.n (vectors_at plan.n plan.t) (after (vectors_in plan.n plan.t f s.rs) (turn_of plan words f s))
   holds =
@@ -121,63 +121,63 @@ module _ (plan : Plan) (words : List ℕ) (f floats v : List Float) (s : Stand) 
       let e = c.long in
       let long : Long n (after (vectors_in n t f s.rs) (turn_of plan words f s)) =
       after_long n flat (matrix words f M) plan.tolerance (vectors_in n t f s.rs) (length-rows_of words f M n)
-      (record { x-long = length_part f (at_x n t) n (omega arith); r-long = length_part f (at_r n t) n (omega arith); p-long = length_part f (at_p n t) n (omega arith) }) in
-      rw (front-placed plan f s e (turn_of plan words f s) long) (holds-placed f n (vectors_at n t) _ (row plan f s e) long)
+      (record { x_long = length_part f (at_x n t) n (omega arith); r_long = length_part f (at_r n t) n (omega arith); p_long = length_part f (at_p n t) n (omega arith) }) in
+      rw (front-placed plan f s e (turn_of plan words f s) long) (holds_placed f n (vectors_at n t) _ (row plan f s e) long)
 
-  copied-again : Ready plan words → 3 * plan.n ≤ length v → Copied plan words (solved_step plan s f (turn_of plan words f s)).front floats (left_by plan.n v (turn_on plan words floats v s))
-  copied-again r fits =
+  copied_again : Ready plan words → 3 * plan.n ≤ length v → Copied plan words (solved_step plan s f (turn_of plan words f s)).front floats (left_by plan.n v (turn_on plan words floats v s))
+  copied_again r fits =
       let n : ℕ = plan.n in
       let t : ℕ = plan.t in
       let f' : List Float = (solved_step plan s f (turn_of plan words f s)).front in
       let h = holds in
       let w : Vectored (left_by n v (turn_on plan words floats v s)) n (after (vectors_of v n s.rs) (turn_on plan words floats v s)) =
       passed_vectored words floats M v flat plan.tolerance s.rs fits in
-      let same : after (vectors_in n t f s.rs) (turn_of plan words f s) ≡ after (vectors_of v n s.rs) (turn_on plan words floats v s) = ap₂ after vectors-same turn-same in
+      let same : after (vectors_in n t f s.rs) (turn_of plan words f s) ≡ after (vectors_of v n s.rs) (turn_on plan words floats v s) = ap₂ after vectors_same turn_same in
       let x : part f' (at_x n t) n ≡ (after (vectors_of v n s.rs) (turn_on plan words floats v s)).x = ap (λ (u : Solve). u.x) (h.vectors ∙ same) in
       let q : part f' (at_r n t) n ≡ (after (vectors_of v n s.rs) (turn_on plan words floats v s)).r = ap (λ (u : Solve). u.r) (h.vectors ∙ same) in
       let p : part f' (at_p n t) n ≡ (after (vectors_of v n s.rs) (turn_on plan words floats v s)).p = ap (λ (u : Solve). u.p) (h.vectors ∙ same) in
       record {
         matrix-same = matrix_kept words f f' M r.sound (h.before (4 * n) (9 * t + n) (omega arith)) ∙ c.matrix-same;
-        vertices-same = h.before 0 (2 * n) (omega arith) ∙ c.vertices-same;
-        x-same = x ∙ sym w.x-is;
-        r-same = q ∙ sym w.r-is;
-        p-same = p ∙ sym w.p-is;
+        vertices_same = h.before 0 (2 * n) (omega arith) ∙ c.vertices-same;
+        x_same = x ∙ sym w.x-is;
+        r_same = q ∙ sym w.r-is;
+        p_same = p ∙ sym w.p-is;
         gradients-same = h.behind (at_gradients n t) (2 * t) (omega arith) ∙ c.gradients-same;
         long = h.as_long ∙ c.long;
       }
 
-  step-solves : s.walk.end ≡ 0 → s.end ≡ 0 → step_on plan words f s ≡ solved_step plan s f (turn_of plan words f s)
+  step_solves : s.walk.end ≡ 0 → s.end ≡ 0 → step_on plan words f s ≡ solved_step plan s f (turn_of plan words f s)
   unfolding step_on next_of solve_step
-  step-solves e z = rw (eq-eqb s.walk.end 0 e, eq-eqb s.end 0 z)
+  step_solves e z = rw (eq-eqb s.walk.end 0 e, eq-eqb s.end 0 z)
 
 -- ---- passes in a row
 
 module _ (plan : Plan) (words : List ℕ) (floats : List Float) (s : Stand) where
-  pub solved-none : Ready plan words → Standing plan s → s.walk.end ≡ 0 → (x : ℕ) → x ≡ at_x plan.n plan.t → at_norms plan.n plan.t ≤ length floats → (v v' : List Float) → 3 * plan.n ≤ length v'
+  pub solved_none : Ready plan words → Standing plan s → s.walk.end ≡ 0 → (x : ℕ) → x ≡ at_x plan.n plan.t → at_norms plan.n plan.t ≤ length floats → (v v' : List Float) → 3 * plan.n ≤ length v'
       → v' ≡ splice v 0 (part floats x (3 * plan.n)) → Solved plan words floats s 0 s v'
   unfolding dry
-  solved-none r st e x ex h v v' fits is =
+  solved_none r st e x ex h v v' fits is =
       let n : ℕ = plan.n in
       let t : ℕ = plan.t in
       let m : List Float = part floats (at_x n t) (3 * n) in
       let as_long : length v' ≡ length v = ap length is ∙ length-splice v 0 (part floats x (3 * n)) in
       let lm : length m ≡ 3 * n = length_part floats (at_x n t) (3 * n) (omega arith) in
-      let whole : part v' 0 (3 * n) ≡ m = ap (λ (w : List Float). part w 0 (3 * n)) (is ∙ ap (λ (o : ℕ). splice v 0 (part floats o (3 * n))) ex) ∙ part-splice-same v 0 m (3 * n) lm (omega arith) in
+      let whole : part v' 0 (3 * n) ≡ m = ap (λ (w : List Float). part w 0 (3 * n)) (is ∙ ap (λ (o : ℕ). splice v 0 (part floats o (3 * n))) ex) ∙ part_splice-same v 0 m (3 * n) lm (omega arith) in
       let sub : (at : ℕ) → at + n ≤ 3 * n → part v' at n ≡ part floats (at_x n t + at) n =
-      λ at k. ap (λ (o : ℕ). part v' o n) (sym (zero-add at)) ∙ sym (part-part v' 0 (3 * n) at n k) ∙ ap (λ (w : List Float). part w at n) whole ∙ part-part floats (at_x n t) (3 * n) at n k in
+      λ at k. ap (λ (o : ℕ). part v' o n) (sym (zero-add at)) ∙ sym (part_part v' 0 (3 * n) at n k) ∙ ap (λ (w : List Float). part w at n) whole ∙ part_part floats (at_x n t) (3 * n) at n k in
       let a0 : at_x n t + 0 ≡ at_x n t = omega arith in
       let a1 : at_x n t + n ≡ at_r n t = omega arith in
       let a2 : at_x n t + 2 * n ≡ at_p n t = omega arith in
-      let front : (at k : ℕ) → at + k ≤ at_norms n t → part (front_of plan floats) at k ≡ part floats at k = λ at k q. part-of-take floats (at_norms n t) at k q in
+      let front : (at k : ℕ) → at + k ≤ at_norms n t → part (front_of plan floats) at k ≡ part floats at k = λ at k q. part_of_take floats (at_norms n t) at k q in
       record {
         place = omega arith;
         stand = refl;
         copied = record {
           matrix-same = matrix_kept words floats (front_of plan floats) (matrix_at n t) r.sound (front (4 * n) (9 * t + n) (omega arith));
-          vertices-same = front 0 (2 * n) (omega arith);
-          x-same = front (at_x n t) n (omega arith) ∙ ap (λ (o : ℕ). part floats o n) (sym a0) ∙ sym (sub 0 (omega arith));
-          r-same = front (at_r n t) n (omega arith) ∙ ap (λ (o : ℕ). part floats o n) (sym a1) ∙ sym (sub n (omega arith));
-          p-same = front (at_p n t) n (omega arith) ∙ ap (λ (o : ℕ). part floats o n) (sym a2) ∙ sym (sub (2 * n) (omega arith));
+          vertices_same = front 0 (2 * n) (omega arith);
+          x_same = front (at_x n t) n (omega arith) ∙ ap (λ (o : ℕ). part floats o n) (sym a0) ∙ sym (sub 0 (omega arith));
+          r_same = front (at_r n t) n (omega arith) ∙ ap (λ (o : ℕ). part floats o n) (sym a1) ∙ sym (sub n (omega arith));
+          p_same = front (at_p n t) n (omega arith) ∙ ap (λ (o : ℕ). part floats o n) (sym a2) ∙ sym (sub (2 * n) (omega arith));
           gradients-same = front (at_gradients n t) (2 * t) (omega arith);
           long = length-take-le _ _ h;
         };
@@ -192,18 +192,18 @@ module _ (plan : Plan) (words : List ℕ) (floats : List Float) (s : Stand) wher
       let f : List Float = (dry plan words i (dry_at plan floats s)).front in
       let c : Copied plan words f floats v = d.copied in
       let step : step_on plan words f (dry plan words i (dry_at plan floats s)).stand ≡ solved_step plan r f (turn_of plan words f r) =
-      ap (step_on plan words f) (sym d.stand) ∙ step-solves plan words f floats v r c d.unended z in
+      ap (step_on plan words f) (sym d.stand) ∙ step_solves plan words f floats v r c d.unended z in
       let stand : (step_on plan words f (dry plan words i (dry_at plan floats s)).stand).stand ≡ r' =
       ap (λ (x : Stepped). x.stand) step
       ∙ solved_turned plan r f (turn_of plan words f r)
-      ∙ ap (λ (t : Turn). turned_stand plan r (answer_of t)) (turn-same plan words f floats v r c)
+      ∙ ap (λ (t : Turn). turned_stand plan r (answer_of t)) (turn_same plan words f floats v r c)
       ∙ sym tu.stand in
       let place : r'.place ≡ r.place + 1 = ap (λ (x : Stand). x.place) tu.stand ∙ turned_place plan r (answer_of (turn_on plan words floats v r)) in
       let h = d.place in
       rw add-one (record {
         place = omega arith;
         stand = sym stand;
-        copied = rw (ap (λ (x : Stepped). x.front) step, tu.vectors) (copied-again plan words f floats v r c rd fits);
+        copied = rw (ap (λ (x : Stepped). x.front) step, tu.vectors) (copied_again plan words f floats v r c rd fits);
         standing = subst (Standing plan) stand (step_standing plan words f (dry plan words i (dry_at plan floats s)).stand rd (subst (Standing plan) d.stand d.standing));
         unended = ap (λ (x : Stand). x.walk.end) tu.stand ∙ ap (λ (w : Walk). w.end) (turned_walk plan r (answer_of (turn_on plan words floats v r))) ∙ d.unended;
       })
@@ -223,6 +223,6 @@ module _ (plan : Plan) (words : List ℕ) (floats : List Float) (s : Stand) wher
     standing = d.standing;
     solving = z;
     near = omega (arith, c.near, d.place);
-    floats-fit = omega (arith, c.floats-fit);
-    copies-fit = fits;
+    floats_fit = omega (arith, c.floats-fit);
+    copies_fit = fits;
   }

@@ -41,7 +41,7 @@ pub record Ground (plan : Plan) (words : List ℕ) (l : ℕ) (b : List Float) (m
   pub fielded : Fielded b words m u
   pub mesh : m ≡ mesh_at plan.n plan.t
   pub count : m.t ≡ plan.t
-  pub floats-fit : at_norms plan.n plan.t ≤ l
+  pub floats_fit : at_norms plan.n plan.t ≤ l
 
 -- a place of a path that has points
 pub record Going (plan : Plan) (s : Stand) : Type 0 where
@@ -90,8 +90,8 @@ pub record Followable (plan : Plan) (words : List ℕ) (l : ℕ) (b : List Float
   pub unended : s.walk.end ≡ 0
   pub solved : s.end ≡ 0 → ⊥
   pub near : s.place + k < 1000000
-  pub floats-fit : at_norms plan.n plan.t ≤ l
-  pub scratch-fits : 3 * plan.n ≤ length b
+  pub floats_fit : at_norms plan.n plan.t ≤ l
+  pub scratch_fits : 3 * plan.n ≤ length b
 
 -- k passes from s come to r on every front that the scratch and the floats show
 pub record Followed (plan : Plan) (words : List ℕ) (floats b : List Float) (s : Stand) (k : ℕ) (r : Stand) : Type 0 where

@@ -33,8 +33,8 @@ pub record Solvable (plan : Plan) (words : List ℕ) (l k : ℕ) (s : Stand) : T
   pub standing : Standing plan s
   pub solving : s.end ≡ 0
   pub near : s.place < 1000000
-  pub floats-fit : at_norms plan.n plan.t ≤ l
-  pub copies-fit : 3 * plan.n ≤ k
+  pub floats_fit : at_norms plan.n plan.t ≤ l
+  pub copies_fit : 3 * plan.n ≤ k
 
 -- it leads from s to r, and from the vectors v to l
 pub record Turns (plan : Plan) (words : List ℕ) (floats v : List Float) (s r : Stand) (l : List Float) : Type 0 where
@@ -46,10 +46,10 @@ pub record Turns (plan : Plan) (words : List ℕ) (floats v : List Float) (s r :
 -- a front f whose x, r and p stand in v, and whose other lists that passes read stand in the floats
 pub record Copied (plan : Plan) (words : List ℕ) (f floats v : List Float) : Type 0 where
   pub matrix-same : matrix words f (matrix_at plan.n plan.t) ≡ matrix words floats (matrix_at plan.n plan.t)
-  pub vertices-same : part f 0 (2 * plan.n) ≡ part floats 0 (2 * plan.n)
-  pub x-same : part f (at_x plan.n plan.t) plan.n ≡ part v 0 plan.n
-  pub r-same : part f (at_r plan.n plan.t) plan.n ≡ part v plan.n plan.n
-  pub p-same : part f (at_p plan.n plan.t) plan.n ≡ part v (2 * plan.n) plan.n
+  pub vertices_same : part f 0 (2 * plan.n) ≡ part floats 0 (2 * plan.n)
+  pub x_same : part f (at_x plan.n plan.t) plan.n ≡ part v 0 plan.n
+  pub r_same : part f (at_r plan.n plan.t) plan.n ≡ part v plan.n plan.n
+  pub p_same : part f (at_p plan.n plan.t) plan.n ≡ part v (2 * plan.n) plan.n
   pub gradients-same : part f (at_gradients plan.n plan.t) (2 * plan.t) ≡ part floats (at_gradients plan.n plan.t) (2 * plan.t)
   pub long : length f ≡ at_norms plan.n plan.t
 

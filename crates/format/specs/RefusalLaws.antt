@@ -117,8 +117,8 @@ module _ {A : Type 0} (f : A → ℕ) where
       last zero = refl
       last (suc k) = refl
 
-  pub passed-more : (xs : List A) (d : A) (i : ℕ) → Passed xs i → i < length xs → f (get_or xs i d) ≡ 0 → Passed xs (i + 1)
-  passed-more xs d i p l e = record { within = omega arith; clean = prefix xs d i l ∙ then_none p.clean e }
+  pub passed_more : (xs : List A) (d : A) (i : ℕ) → Passed xs i → i < length xs → f (get_or xs i d) ≡ 0 → Passed xs (i + 1)
+  passed_more xs d i p l e = record { within = omega arith; clean = prefix xs d i l ∙ then_none p.clean e }
 
   -- it finds one at i
   first_from_lem : (xs : List A) (d : A) (i : ℕ) → each f (take i xs) ≡ 0 → i < length xs → (f (get_or xs i d) ≡ 0 → ⊥) → each f xs ≡ f (get_or xs i d)
@@ -129,12 +129,12 @@ module _ {A : Type 0} (f : A → ℕ) where
       let q : Neither (f x) (each f (take i xs)) = neither (f x) (each f (take i xs)) p in
       then_second (each f xs) q.first ∙ first_from_lem xs d i q.second (le_of_suc-le-suc l) h
 
-  pub passed-until : (xs : List A) (d : A) (i : ℕ) → Passed xs i → i < length xs → (f (get_or xs i d) ≡ 0 → ⊥) → each f xs ≡ f (get_or xs i d)
-  passed-until xs d i p l h = first_from_lem xs d i p.clean l h
+  pub passed_until : (xs : List A) (d : A) (i : ℕ) → Passed xs i → i < length xs → (f (get_or xs i d) ≡ 0 → ⊥) → each f xs ≡ f (get_or xs i d)
+  passed_until xs d i p l h = first_from_lem xs d i p.clean l h
 
   -- there is none
-  pub passed-all : (xs : List A) (i : ℕ) → Passed xs i → length xs ≤ i → each f xs ≡ 0
-  passed-all xs i p l = sym (ap (each f) (take_all i xs l)) ∙ p.clean
+  pub passed_all : (xs : List A) (i : ℕ) → Passed xs i → length xs ≤ i → each f xs ≡ 0
+  passed_all xs i p l = sym (ap (each f) (take_all i xs l)) ∙ p.clean
 
 pub each_map : {A B : Type 0} (f : B → ℕ) (g : A → B) (xs : List A) → each f (map g xs) ≡ each (λ (x : A). f (g x)) xs
 unfolding each
@@ -144,11 +144,11 @@ each_map f g (x ∷ xs) = ap (λ (k : ℕ). f (g x) then k) (each_map f g xs)
 -- ---- the same, where r is what was found to refuse the i-th element
 
 module _ {A : Type 0} (f : A → ℕ) (xs : List A) (d : A) where
-  pub list-more : (i r : ℕ) → Passed f xs i → i < length xs → r ≡ f (get_or xs i d) → r ≡ 0 → Passed f xs (i + 1)
-  list-more i r p h e z = passed-more f xs d i p h (sym e ∙ z)
+  pub list_more : (i r : ℕ) → Passed f xs i → i < length xs → r ≡ f (get_or xs i d) → r ≡ 0 → Passed f xs (i + 1)
+  list_more i r p h e z = passed_more f xs d i p h (sym e ∙ z)
 
-  pub list-until : (i r : ℕ) → Passed f xs i → i < length xs → r ≡ f (get_or xs i d) → (r ≡ 0 → ⊥) → r ≡ each f xs
-  list-until i r p h e z = e ∙ sym (passed-until f xs d i p h (λ y. z (e ∙ y)))
+  pub list_until : (i r : ℕ) → Passed f xs i → i < length xs → r ≡ f (get_or xs i d) → (r ≡ 0 → ⊥) → r ≡ each f xs
+  list_until i r p h e z = e ∙ sym (passed_until f xs d i p h (λ y. z (e ∙ y)))
 
   pub list_all : (i : ℕ) → Passed f xs i → length xs ≤ i → 0 ≡ each f xs
-  list_all i p h = sym (passed-all f xs i p h)
+  list_all i p h = sym (passed_all f xs i p h)

@@ -107,11 +107,11 @@ module _ (w k : ℕ) (xs t : List ℕ) where
   pub count-section : k < 2 ^ 32 → count (section w k xs ++ t) ≡ k
   count-section h = ap (number 4) apart ∙ number-bytes 4 k (all_bytes w xs ++ t) h
 
-  items-section : drop 4 (section w k xs ++ t) ≡ all_bytes w xs ++ t
-  items-section = ap (drop 4) apart ∙ drop_at (bytes 4 k) (all_bytes w xs ++ t) 4 (length-bytes 4 k)
+  items_section : drop 4 (section w k xs ++ t) ≡ all_bytes w xs ++ t
+  items_section = ap (drop 4) apart ∙ drop_at (bytes 4 k) (all_bytes w xs ++ t) 4 (length-bytes 4 k)
 
   pub numbers-section : (n : ℕ) → n ≡ length xs → Under (256 ^ w) xs → numbers w n (drop 4 (section w k xs ++ t)) ≡ xs
-  numbers-section n e u = ap₂ (numbers w) e items-section ∙ numbers-all_bytes w xs t u
+  numbers-section n e u = ap₂ (numbers w) e items_section ∙ numbers-all_bytes w xs t u
 
   pub behind-section : (size : ℕ) → k < 2 ^ 32 → size * k ≡ w * length xs → behind size (section w k xs ++ t) ≡ t
   unfolding behind
@@ -119,8 +119,8 @@ module _ (w k : ℕ) (xs t : List ℕ) where
       ap (λ (n : ℕ). drop (4 + size * n) (section w k xs ++ t)) (count-section h)
       ∙ drop_at (section w k xs) t (4 + size * k) (length-section w k xs ∙ ap (λ (n : ℕ). 4 + n) (sym e))
 
-  pub head-section : (rule : ℕ → ℕ) (size : ℕ) → k < 2 ^ 32 → size * k ≡ w * length xs → rule k ≡ 0 → Head rule size (section w k xs ++ t)
-  head-section rule size h e r =
+  pub head_section : (rule : ℕ → ℕ) (size : ℕ) → k < 2 ^ 32 → size * k ≡ w * length xs → rule k ≡ 0 → Head rule size (section w k xs ++ t)
+  head_section rule size h e r =
       let c : count (section w k xs ++ t) ≡ k = count-section h in
       let l : length (section w k xs ++ t) ≡ 4 + w * length xs + length t = length-append (section w k xs) t ∙ ap (λ (n : ℕ). n + length t) (length-section w k xs) in
       let m : size * count (section w k xs ++ t) ≡ w * length xs = ap (λ (n : ℕ). size * n) c ∙ e in
@@ -140,5 +140,5 @@ goes w size k xs t s e h m u =
       counted = count-section w k xs t h;
       items = λ n p. numbers-section w k xs t n p u;
       next = behind-section w k xs t size h m;
-      head = λ rule r. head-section w k xs t rule size h m r;
+      head = λ rule r. head_section w k xs t rule size h m r;
     })

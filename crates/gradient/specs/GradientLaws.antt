@@ -17,13 +17,13 @@ three_on : (a b d : ℕ) (l : List ℕ) (i j : ℕ) → i ≡ suc (suc (suc j)) 
 three_on a b d l i j e = ap (λ (k : ℕ). get_or (a ∷ b ∷ d ∷ l) k 0) e
 
 module _ (flat : Float) (vs us : List Float) where
-  pub gradients-snoc : (n : ℕ) (ts : List ℕ) (i j k : ℕ) → length ts ≡ 3 * n → gradients flat vs us (ts ++ (i ∷ j ∷ k ∷ [])) ≡ gradients flat vs us ts ++ pair (gradient_of flat vs us i j k)
+  pub gradients_snoc : (n : ℕ) (ts : List ℕ) (i j k : ℕ) → length ts ≡ 3 * n → gradients flat vs us (ts ++ (i ∷ j ∷ k ∷ [])) ≡ gradients flat vs us ts ++ pair (gradient_of flat vs us i j k)
   unfolding gradients
-  gradients-snoc n [] i j k e = refl
-  gradients-snoc n (a ∷ []) i j k e = absurd (omega arith)
-  gradients-snoc n (a ∷ b ∷ []) i j k e = absurd (omega arith)
-  gradients-snoc zero (a ∷ b ∷ d ∷ ts) i j k e = absurd (omega arith)
-  gradients-snoc (suc n) (a ∷ b ∷ d ∷ ts) i j k e = rw (gradients-snoc n ts i j k (omega arith))
+  gradients_snoc n [] i j k e = refl
+  gradients_snoc n (a ∷ []) i j k e = absurd (omega arith)
+  gradients_snoc n (a ∷ b ∷ []) i j k e = absurd (omega arith)
+  gradients_snoc zero (a ∷ b ∷ d ∷ ts) i j k e = absurd (omega arith)
+  gradients_snoc (suc n) (a ∷ b ∷ d ∷ ts) i j k e = rw (gradients_snoc n ts i j k (omega arith))
 
   pub length-gradients : (n : ℕ) (ts : List ℕ) → length ts ≡ 3 * n → length (gradients flat vs us ts) ≡ 2 * n
   unfolding gradients
@@ -35,19 +35,19 @@ module _ (flat : Float) (vs us : List Float) where
   length-gradients (suc n) (a ∷ b ∷ d ∷ ts) e = omega (arith, length-gradients n ts (omega arith))
 
   -- the gradient on triangle t
-  pub gradients-at : (n : ℕ) (ts : List ℕ) (t : ℕ) → length ts ≡ 3 * n → t < n
+  pub gradients_at_lem : (n : ℕ) (ts : List ℕ) (t : ℕ) → length ts ≡ 3 * n → t < n
       → point (get_or (gradients flat vs us ts) (2 * t) nan) (get_or (gradients flat vs us ts) (2 * t + 1) nan) ≡ gradient_of flat vs us (corner ts t 0) (corner ts t 1) (corner ts t 2)
   unfolding gradients corner
-  gradients-at zero ts t e h = absurd (omega arith)
-  gradients-at (suc n) [] t e h = absurd (omega arith)
-  gradients-at (suc n) (a ∷ []) t e h = absurd (omega arith)
-  gradients-at (suc n) (a ∷ b ∷ []) t e h = absurd (omega arith)
-  gradients-at (suc n) (a ∷ b ∷ d ∷ ts) zero e h = refl
-  gradients-at (suc n) (a ∷ b ∷ d ∷ ts) (suc t) e h =
+  gradients_at_lem zero ts t e h = absurd (omega arith)
+  gradients_at_lem (suc n) [] t e h = absurd (omega arith)
+  gradients_at_lem (suc n) (a ∷ []) t e h = absurd (omega arith)
+  gradients_at_lem (suc n) (a ∷ b ∷ []) t e h = absurd (omega arith)
+  gradients_at_lem (suc n) (a ∷ b ∷ d ∷ ts) zero e h = refl
+  gradients_at_lem (suc n) (a ∷ b ∷ d ∷ ts) (suc t) e h =
       let g = gradient_of flat vs us a b d in
       let x = two_on g.x g.y (gradients flat vs us ts) (2 * suc t) (2 * t) (omega arith) in
       let y = two_on g.x g.y (gradients flat vs us ts) (2 * suc t + 1) (2 * t + 1) (omega arith) in
       let i = three_on a b d ts (3 * suc t + 0) (3 * t + 0) (omega arith) in
       let j = three_on a b d ts (3 * suc t + 1) (3 * t + 1) (omega arith) in
       let k = three_on a b d ts (3 * suc t + 2) (3 * t + 2) (omega arith) in
-      cc (gradients-at n ts t (omega arith) (omega arith))
+      cc (gradients_at_lem n ts t (omega arith) (omega arith))

@@ -10,8 +10,8 @@ use Rattle.gradient.specs.Gradient.{gradient_of, gradients}
 -- the field's n numbers start at u, the gradients' 2T at `at`, behind the vertices and the field
 pub record Laid (floats : List Float) (words : List ℕ) (m : Mesh) (u at : ℕ) : Type 0 where
   pub meshed : Meshed floats words m
-  pub vertices-before : m.vertices + 2 * m.n ≤ at
-  pub field-before : u + m.n ≤ at
+  pub vertices_before : m.vertices + 2 * m.n ≤ at
+  pub field_before : u + m.n ≤ at
   pub fits : at + 2 * m.t ≤ length floats
 
 -- the gradient on triangle t, and those on all

@@ -39,8 +39,8 @@ real_given (suc w) e n f = rw (← e, f)
 -- ---- a sheet that is checked
 
 module _ (sheet hs ns : List ℕ) (xs : List Float) where
-  pub check-refused : (k : ℕ) → Checked.Refused k ≡ checked_of (parse sheet) → Checks sheet hs ns xs k hs ns xs
-  check-refused k e = record {
+  pub check_refused : (k : ℕ) → Checked.Refused k ≡ checked_of (parse sheet) → Checks sheet hs ns xs k hs ns xs
+  check_refused k e = record {
     said = ap (λ (a : Checked). check_fault a hs ns xs) e;
     head = ap (λ (a : Checked). head_checked a hs ns xs) e;
     wholes = ap (λ (a : Checked). wholes_checked a hs ns xs) e;
@@ -57,8 +57,8 @@ module _ (sheet hs ns : List ℕ) (xs : List Float) where
     reals = ap (λ (t : Bool). left_by (pick t 0 8) (reals_settings h.settings xs) xs) (sym z) ∙ ap (λ (a : Checked). reals_checked a hs ns xs) e;
   }
 
-  pub check-short : (h : Header) {f : Bool} → Checked.Accepted h ≡ checked_of (parse sheet) → f ≡ settings_fit (length ns) (length xs) → (leb 6 (length hs) && f) ≡ false → Checks sheet hs ns xs 8 hs ns xs
-  check-short h e p q = accepted h false e (ap (λ (t : Bool). leb 6 (length hs) && t) (sym p) ∙ q)
+  pub check_short : (h : Header) {f : Bool} → Checked.Accepted h ≡ checked_of (parse sheet) → f ≡ settings_fit (length ns) (length xs) → (leb 6 (length hs) && f) ≡ false → Checks sheet hs ns xs 8 hs ns xs
+  check_short h e p q = accepted h false e (ap (λ (t : Bool). leb 6 (length hs) && t) (sym p) ∙ q)
 
   pub check_done : (h : Header) {f : Bool} {hs' ns' : List ℕ} {xs' : List Float} → Checked.Accepted h ≡ checked_of (parse sheet) → f ≡ settings_fit (length ns) (length xs) → (leb 6 (length hs) && f) ≡ true
       → hs' ≡ head_numbers h hs → ns' ≡ wholes_settings h.settings ns → xs' ≡ reals_settings h.settings xs → Checks sheet hs ns xs 0 hs' ns' xs'

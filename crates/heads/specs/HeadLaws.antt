@@ -170,9 +170,9 @@ module _ (vertices : List Float) (triangles neighbours tags ns : List ℕ) (xs :
   abbrev content : Content
   content = content_from vertices triangles neighbours tags ns xs
 
-  pub written-reads : Doubles content → WritesFrom vertices triangles neighbours tags ns xs out written 0 out' written' → parse (take (get_or written' 0 0) out') ≡ accepted content
+  pub written_reads : Doubles content → WritesFrom vertices triangles neighbours tags ns xs out written 0 out' written' → parse (take (get_or written' 0 0) out') ≡ accepted content
   unfolding write_refusal
-  written-reads d w =
+  written_reads d w =
       let fit : (settings_fit (length ns) (length xs) && leb 1 (length written)) ≡ true = fitted (settings_fit (length ns) (length xs) && leb 1 (length written)) (write_refusal content (length out)) (sym w.said) in
       let fine : write_refusal content (length out) ≡ 0 = sym (w.said ∙ rw fit) in
       let refusal : refusal_of content ≡ 0 = (neither (refusal_of content) (pick (leb (length (bytes_of content)) (length out)) 0 8) fine).first in

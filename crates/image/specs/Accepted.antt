@@ -83,8 +83,8 @@ MarkIn p (Mark.At k) = PlaceIn p k.place × (1 ≤ k.norms) × (k.norms ≤ p.li
 -- both ends and the crossings of a place
 pub record EndsIn (p : Plan) (s : Stand) : Type 0 where
   pub field_end : s.end ≤ 3
-  pub path-end : s.walk.end ≤ 9
-  pub crossings-most : s.crossings ≤ factor * p.t
+  pub path_end_lem : s.walk.end ≤ 9
+  pub crossings_most : s.crossings ≤ factor * p.t
 
 -- also of a record without points
 abbrev pub TriangleIn : Plan → ℕ → Type 0
@@ -116,8 +116,8 @@ module _ (p : Plan) (s : Stand) where
   abbrev norms : Bool
   norms = leb s.norms (p.limit + pick (eqb s.end 0) 0 1)
 
-  on-path : (eqb s.walk.points 0 || within) ≡ true → 0 < s.walk.points → within ≡ true
-  on-path e k = by (or_true (eqb s.walk.points 0) within e)
+  on_path : (eqb s.walk.points 0 || within) ≡ true → 0 < s.walk.points → within ≡ true
+  on_path e k = by (or_true (eqb s.walk.points 0) within e)
     where
       by : (eqb s.walk.points 0 ≡ true) ⊎ (within ≡ true) → within ≡ true
       by (inl x) = absurd (omega (arith, eqb-true s.walk.points 0 x))
@@ -140,18 +140,18 @@ module _ (p : Plan) (s : Stand) where
       let i = and_true (leb s.crossings (factor * p.t)) (eqb s.walk.points 0 || within) g.1 in (
         leb-true s.place (farthest p.t p.limit) a.0,
         record {
-          norms-least = leb-true 1 s.norms b.0;
+          norms_least = leb-true 1 s.norms b.0;
           norms_most = leb-true s.norms (p.limit + pick (eqb s.end 0) 0 1) c.0;
-          points-most = leb-true s.walk.points p.room g.0;
-          triangle-in = λ k. ltb-true s.walk.triangle p.t (and_true (ltb s.walk.triangle p.t) left (on-path i.1 k)).0;
+          points_most = leb-true s.walk.points p.room g.0;
+          triangle_in = λ k. ltb-true s.walk.triangle p.t (and_true (ltb s.walk.triangle p.t) left (on_path i.1 k)).0;
           edge_in = leb-true s.walk.edge 3 f.0;
-          crossings_left = λ z k. one_left (and_true (ltb s.walk.triangle p.t) left (on-path i.1 k)).1 z;
+          crossings_left = λ z k. one_left (and_true (ltb s.walk.triangle p.t) left (on_path i.1 k)).1 z;
         },
         named_in p s.walk.triangle n.0,
         record {
           field_end = leb-true s.end 3 d.0;
-          path-end = leb-true s.walk.end 9 e.0;
-          crossings-most = leb-true s.crossings (factor * p.t) i.0;
+          path_end_lem = leb-true s.walk.end 9 e.0;
+          crossings_most = leb-true s.crossings (factor * p.t) i.0;
         },
       )
 
@@ -198,30 +198,30 @@ module _ (p : Plan) (ws : List ℕ) (counts : Counted p) (fits : word_space p.n 
       let c = and_true rising columns b.1 in
       (a.0, b.0, c.0, c.1)
 
-  corners-below : Below n (triangles_of ws (mesh_at n t))
+  corners_below : Below n (triangles_of ws (mesh_at n t))
   unfolding triangles_of
-  corners-below =
+  corners_below =
       let l : length (part ws 0 (3 * t)) ≡ 3 * t = length_part ws 0 (3 * t) (omega arith) in
       record { at = λ k j. rw (get_d_part ws 0 (3 * t) k 0 (omega arith)) ((below_of ws 0 n (3 * t) (omega arith) parted.0).at k (omega arith)) }
 
   pub linked : Linked ws (mesh_at n t)
   unfolding neighbours_of
   linked = record {
-    n-most = counts.vertices;
-    t-most = counts.triangles;
-    triangles-fit = omega arith;
-    neighbours-fit = omega arith;
-    tags-fit = omega arith;
-    corners = corners-below;
+    n_most = counts.vertices;
+    t_most = counts.triangles;
+    triangles_fit = omega arith;
+    neighbours_fit = omega arith;
+    tags_fit = omega arith;
+    corners = corners_below;
     neighbours = record { at = none_or_below_at t (part ws (at_neighbours t) (3 * t)) parted.1 };
   }
 
   pub ready : Ready p ws
   ready = record {
-    n-most = counts.vertices;
-    t-most = counts.triangles;
+    n_most = counts.vertices;
+    t_most = counts.triangles;
     limit-most = counts.limit;
-    room-least = counts.least;
+    room_least = counts.least;
     room_most = counts.room;
     sound = sound_of ws (matrix_at n t) (omega arith) (omega arith) parted.2 parted.3;
     linked = linked;
@@ -233,11 +233,11 @@ pub record Accepted (r : Run) (b : Buffers) : Type 0 where
   pub ready : Ready r.plan b.words
   pub standing : Standing r.plan r.stand
   pub place_in : PlaceIn r.plan r.stand.place
-  pub triangle-in : TriangleIn r.plan r.stand.walk.triangle
-  pub ends-in : EndsIn r.plan r.stand
+  pub triangle_in : TriangleIn r.plan r.stand.walk.triangle
+  pub ends_in : EndsIn r.plan r.stand
   pub roomy : Roomy r.plan b.floats b.path
   pub keeping : MarkKeeping r.plan r.mark
-  pub mark-in : MarkIn r.plan r.mark
+  pub mark_in : MarkIn r.plan r.mark
 
 pub accepted : (r : Run) (b : Buffers) → held_fault r b ≡ 0 → Accepted r b
 unfolding held_fault
@@ -257,9 +257,9 @@ accepted r b h =
       ready = ready r.plan b.words count space.words m.1;
       standing = here.1;
       place_in = here.0;
-      triangle-in = here.2;
-      ends-in = here.3;
-      roomy = record { floats-fit = space.floats; path-fit = space.path };
+      triangle_in = here.2;
+      ends_in = here.3;
+      roomy = record { floats_fit = space.floats; path_fit = space.path };
       keeping = kept.1;
-      mark-in = kept.0;
+      mark_in = kept.0;
     }

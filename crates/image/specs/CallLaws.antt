@@ -22,14 +22,14 @@ use Rattle.image.specs.Shown.{lengths_of}
 
 module _ (c : Call) (r : Run) (b : Buffers) where
   -- A refused call leaves the record and every lent place as they were.
-  pub refused-unchanged : (fault c r b ≡ 0 → ⊥) → (run_after c r b ≡ r) × (buffers_after c r b ≡ b)
+  pub refused_unchanged : (fault c r b ≡ 0 → ⊥) → (run_after c r b ≡ r) × (buffers_after c r b ≡ b)
   unfolding run_after buffers_after
-  refused-unchanged n = (rw (ne_eqb (fault c r b) 0 n), rw (ne_eqb (fault c r b) 0 n))
+  refused_unchanged n = (rw (ne_eqb (fault c r b) 0 n), rw (ne_eqb (fault c r b) 0 n))
 
   -- No call changes a word.
-  pub words-unchanged : (buffers_after c r b).words ≡ b.words
+  pub words_unchanged : (buffers_after c r b).words ≡ b.words
   unfolding buffers_after
-  words-unchanged = go (eqb (fault c r b) 0)
+  words_unchanged = go (eqb (fault c r b) 0)
     where
       go : (t : Bool) → (pick t (buffers (gone c r b).floats b.words (gone c r b).path) b).words ≡ b.words
       go true = refl
@@ -102,7 +102,7 @@ module _ (r : Run) (b : Buffers) (counted : Counted r.plan) where
   unfolding held_fault
   held-short e = rw (counts_fine r.plan counted, e)
 
-  pub held-fine : lacking (asked r.plan) (lengths_of b) ≡ false → stand_sound r.plan r.stand ≡ true → mark_sound r.plan r.mark ≡ true → words_sound r.plan b.words ≡ true
+  pub held_fine : lacking (asked r.plan) (lengths_of b) ≡ false → stand_sound r.plan r.stand ≡ true → mark_sound r.plan r.mark ≡ true → words_sound r.plan b.words ≡ true
       → held_fault r b ≡ 0
   unfolding held_fault
-  held-fine e s m w = rw (counts_fine r.plan counted, e, s, m, w)
+  held_fine e s m w = rw (counts_fine r.plan counted, e, s, m, w)

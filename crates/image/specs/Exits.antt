@@ -34,20 +34,20 @@ module _ (c : Call) (r : Run) (b : Buffers) where
   unchanged e a q f n = rw q (record { said = sym f; left = rw (f, ne_eqb e 0 n); held = rw (f, ne_eqb e 0 n) })
 
   -- refused for what the record and the buffers hold
-  pub does-early : (e : ℕ) (a : Answer) → a ≡ answered e r → e ≡ held_fault r b → (e ≡ 0 → ⊥) → Does c r b a b
+  pub does_early : (e : ℕ) (a : Answer) → a ≡ answered e r → e ≡ held_fault r b → (e ≡ 0 → ⊥) → Does c r b a b
   unfolding fault
-  does-early e a q h n = unchanged e a q (then_first (held_fault r b) (late_fault c r b) (λ (z : held_fault r b ≡ 0). n (h ∙ z)) ∙ sym h) n
+  does_early e a q h n = unchanged e a q (then_first (held_fault r b) (late_fault c r b) (λ (z : held_fault r b ≡ 0). n (h ∙ z)) ∙ sym h) n
 
   -- refused for the call
-  pub does-late : (e : ℕ) (a : Answer) → a ≡ answered e r → held_fault r b ≡ 0 → e ≡ late_fault c r b → (e ≡ 0 → ⊥) → Does c r b a b
+  pub does_late : (e : ℕ) (a : Answer) → a ≡ answered e r → held_fault r b ≡ 0 → e ≡ late_fault c r b → (e ≡ 0 → ⊥) → Does c r b a b
   unfolding fault
-  does-late e a q h l n = unchanged e a q (then_second (held_fault r b) (late_fault c r b) h ∙ sym l) n
+  does_late e a q h l n = unchanged e a q (then_second (held_fault r b) (late_fault c r b) h ∙ sym l) n
 
   -- done
-  pub does-next : (r' : Run) (a : Answer) (floats path : List Float) → a ≡ answered 0 r' → held_fault r b ≡ 0 → late_fault c r b ≡ 0 → r' ≡ next_run c r b
+  pub does_next : (r' : Run) (a : Answer) (floats path : List Float) → a ≡ answered 0 r' → held_fault r b ≡ 0 → late_fault c r b ≡ 0 → r' ≡ next_run c r b
       → floats ≡ (gone c r b).floats → path ≡ (gone c r b).path → Does c r b a (buffers floats b.words path)
   unfolding fault run_after buffers_after
-  does-next r' a floats path q h l e f p =
+  does_next r' a floats path q h l e f p =
       let z : fault c r b ≡ 0 = then_second (held_fault r b) (late_fault c r b) h ∙ l in
       rw q (record { said = sym z; left = rw (h, l) e; held = rw (h, l, f, p) })
 
@@ -89,18 +89,18 @@ gain-fits plan words k m s passes e =
     rw (le-ltb most (passes + gain plan words k m s) (omega arith))
 
 module _ (r : Run) (b : Buffers) (target : ℕ) (h : r.stand.place ≤ target) where
-  on-from-here : sought_at r b target ≡ goes r.plan b.words (target - r.stand.place) (work_of r b)
+  on_from_here : sought_at r b target ≡ goes r.plan b.words (target - r.stand.place) (work_of r b)
   unfolding seek origin_of
-  on-from-here = rw (le-leb r.stand.place target h)
+  on_from_here = rw (le-leb r.stand.place target h)
 
-  pub sought-least : r.stand.place ≤ (sought_at r b target).stand.place
-  sought-least =
-      rw (on-from-here, ← dry_stand r.plan b.words (target - r.stand.place) (work_of r b))
+  pub sought_least : r.stand.place ≤ (sought_at r b target).stand.place
+  sought_least =
+      rw (on_from_here, ← dry_stand r.plan b.words (target - r.stand.place) (work_of r b))
       (dry_forth r.plan b.words (dry_at r.plan b.floats r.stand) (target - r.stand.place))
 
   -- the dry count is the gain
-  pub gain-sought : gain r.plan b.words (target - r.stand.place) b.floats r.stand ≡ (sought_at r b target).stand.place - r.stand.place
-  gain-sought = rw on-from-here (gain-goes r.plan b.words (target - r.stand.place) (work_of r b))
+  pub gain_sought : gain r.plan b.words (target - r.stand.place) b.floats r.stand ≡ (sought_at r b target).stand.place - r.stand.place
+  gain_sought = rw on_from_here (gain-goes r.plan b.words (target - r.stand.place) (work_of r b))
 
 -- ---- each call's exits
 
@@ -123,56 +123,56 @@ module _ (r : Run) (b : Buffers) (z : held_fault r b ≡ 0) where
 
     late_is : late ≡ late_fault (advance k) r b
     unfolding gone
-    late_is = l ∙ ap (over_fault r.passes) (gain-sought r b target ahead) ∙ ap (λ (j : ℕ). over_fault r.passes ((sought_at r b j).stand.place - r.stand.place)) e
+    late_is = l ∙ ap (over_fault r.passes) (gain_sought r b target ahead) ∙ ap (λ (j : ℕ). over_fault r.passes ((sought_at r b j).stand.place - r.stand.place)) e
 
-    pub advance-late : (a : Answer) → a ≡ answered late r → (late ≡ 0 → ⊥) → Does (advance k) r b a b
-    advance-late a q n = does-late (advance k) r b late a q z late_is n
+    pub advance_late : (a : Answer) → a ≡ answered late r → (late ≡ 0 → ⊥) → Does (advance k) r b a b
+    advance_late a q n = does_late (advance k) r b late a q z late_is n
 
     module _ (s : Stand) (floats path : List Float) (w : Comes (sought_at r b target) s floats path) where
       -- the place rises, and the count fits
-      pub advance-rises : r.stand.place ≤ s.place
-      advance-rises = rw w.stand (sought-least r b target ahead)
+      pub advance_rises : r.stand.place ≤ s.place
+      advance_rises = rw w.stand (sought_least r b target ahead)
 
-      pub advance-fits : late ≡ 0 → r.passes + (s.place - r.stand.place) ≤ most
-      advance-fits y = rw (w.stand, ← gain-sought r b target ahead) (not_over r.passes _ (sym l ∙ y))
+      pub advance_fits : late ≡ 0 → r.passes + (s.place - r.stand.place) ≤ most
+      advance_fits y = rw (w.stand, ← gain_sought r b target ahead) (not_over r.passes _ (sym l ∙ y))
 
-      pub advance-done : (r' : Run) (a : Answer) → r' ≡ moved_run r s (r.passes + (s.place - r.stand.place)) → a ≡ answered 0 r' → late ≡ 0
+      pub advance_done : (r' : Run) (a : Answer) → r' ≡ moved_run r s (r.passes + (s.place - r.stand.place)) → a ≡ answered 0 r' → late ≡ 0
           → Does (advance k) r b a (buffers floats b.words path)
       unfolding next_run gone
-      advance-done r' a m q y =
-          does-next (advance k) r b r' a floats path q z (sym late_is ∙ y) (m ∙ rw (w.stand, e)) (w.floats ∙ ap (λ (j : ℕ). (sought_at r b j).floats) e)
+      advance_done r' a m q y =
+          does_next (advance k) r b r' a floats path q z (sym late_is ∙ y) (m ∙ rw (w.stand, e)) (w.floats ∙ ap (λ (j : ℕ). (sought_at r b j).floats) e)
           (w.path ∙ ap (λ (j : ℕ). (sought_at r b j).path) e)
 
   module _ (s : Stand) (floats path : List Float) (r' : Run) (a : Answer) (m : r' ≡ moved_run r s r.passes) (q : a ≡ answered 0 r') where
     pub back_done : (k target : ℕ) → target ≡ r.stand.place - k → Comes (sought_at r b target) s floats path → Does (back k) r b a (buffers floats b.words path)
     unfolding next_run gone
     back_done k target e w =
-        does-next (back k) r b r' a floats path q z refl (m ∙ rw (w.stand, e)) (w.floats ∙ ap (λ (j : ℕ). (sought_at r b j).floats) e)
+        does_next (back k) r b r' a floats path q z refl (m ∙ rw (w.stand, e)) (w.floats ∙ ap (λ (j : ℕ). (sought_at r b j).floats) e)
         (w.path ∙ ap (λ (j : ℕ). (sought_at r b j).path) e)
 
-    pub return-done : (k : Kept) → r.mark ≡ Mark.At k → Comes (sought_at r b k.place) s floats path → Does return r b a (buffers floats b.words path)
+    pub return_done : (k : Kept) → r.mark ≡ Mark.At k → Comes (sought_at r b k.place) s floats path → Does return r b a (buffers floats b.words path)
     unfolding next_run gone
-    return-done k e w =
+    return_done k e w =
         let t : k.place ≡ mark_place r.mark r.stand.place = rw e in
-        does-next return r b r' a floats path q z (rw e) (m ∙ rw (w.stand, t)) (w.floats ∙ ap (λ (j : ℕ). (sought_at r b j).floats) t)
+        does_next return r b r' a floats path q z (rw e) (m ∙ rw (w.stand, t)) (w.floats ∙ ap (λ (j : ℕ). (sought_at r b j).floats) t)
         (w.path ∙ ap (λ (j : ℕ). (sought_at r b j).path) t)
 
-  pub return-late : (a : Answer) → r.mark ≡ Mark.Nothing → a ≡ answered 9 r → Does return r b a b
-  return-late a e q = does-late return r b 9 a q z (rw e) (omega arith)
+  pub return_late : (a : Answer) → r.mark ≡ Mark.Nothing → a ≡ answered 9 r → Does return r b a b
+  return_late a e q = does_late return r b 9 a q z (rw e) (omega arith)
 
-  pub mark-done : (floats : List Float) (a : Answer) → floats ≡ kept_floats r.plan b.floats
+  pub mark_done : (floats : List Float) (a : Answer) → floats ≡ kept_floats r.plan b.floats
       → a ≡ answered 0 (record { plan = r.plan; stand = r.stand; mark = Mark.At (kept_of r.stand); passes = r.passes }) → Does mark r b a (buffers floats b.words b.path)
   unfolding next_run gone
-  mark-done floats a f q = does-next mark r b _ a floats b.path q z refl refl f refl
+  mark_done floats a f q = does_next mark r b _ a floats b.path q z refl refl f refl
 
 -- ---- what the way to a place, and its dry count, ask
 
 module _ (r : Run) (b : Buffers) (i : Accepted r b) (target : ℕ) (h : target ≤ farthest r.plan.t r.plan.limit) where
-  pub seeks-of : Seeks r.plan b.words r.stand r.mark target b.floats b.path
-  seeks-of = record { ready = i.ready; standing = i.standing; roomy = i.roomy; keeping = i.keeping; near = h }
+  pub seeks_of : Seeks r.plan b.words r.stand r.mark target b.floats b.path
+  seeks_of = record { ready = i.ready; standing = i.standing; roomy = i.roomy; keeping = i.keeping; near = h }
 
   pub counts_of : r.stand.place ≤ target → Counts r.plan b.words r.stand (target - r.stand.place) b.floats
   counts_of k =
-      let x : r.plan.t ≤ max_triangles = i.ready.t-most in
+      let x : r.plan.t ≤ max_triangles = i.ready.t_most in
       let y : r.plan.limit ≤ max_limit = i.ready.limit-most in
-      record { ready = i.ready; standing = i.standing; near = omega arith; floats-fit = i.roomy.floats-fit }
+      record { ready = i.ready; standing = i.standing; near = omega arith; floats_fit = i.roomy.floats_fit }

@@ -30,24 +30,24 @@ pub record Facts (c : Task) : Type 0 where
       → kept_floats (plan_of c) (floats_of c (at c p) m floats) ≡ floats_of c (at c p) (some p) floats
   pub last_bound : last_place c ≤ farthest (triangle_count c) c.limit
   -- record and words are in range
-  pub stand-sound : (p : ℕ) → p ≤ last_place c → stand_sound (plan_of c) (stand_of p (at c p)) ≡ true
-  pub mark-sound : (m : Option ℕ) → MarkIn m (last_place c) → mark_sound (plan_of c) (mark_of c m) ≡ true
-  pub words-sound : (words : List ℕ) → words_sound (plan_of c) (words_of c words) ≡ true
+  pub stand_sound_lem : (p : ℕ) → p ≤ last_place c → stand_sound (plan_of c) (stand_of p (at c p)) ≡ true
+  pub mark_sound_lem : (m : Option ℕ) → MarkIn m (last_place c) → mark_sound (plan_of c) (mark_of c m) ≡ true
+  pub words_sound_lem : (words : List ℕ) → words_sound (plan_of c) (words_of c words) ≡ true
   -- the places used, and the rest
-  pub floats-long : (p : ℕ) (m : Option ℕ) (floats : List Float) → p ≤ last_place c → MarkIn m (last_place c) → length (floats_of c (at c p) m floats) ≡ floats_used c + length floats
+  pub floats_long : (p : ℕ) (m : Option ℕ) (floats : List Float) → p ≤ last_place c → MarkIn m (last_place c) → length (floats_of c (at c p) m floats) ≡ floats_used c + length floats
   pub words_long : (words : List ℕ) → length (words_of c words) ≡ words_used c + length words
-  pub path-long : (p : ℕ) (path : List Float) → p ≤ last_place c → length (path_of c (at c p) path) ≡ point_floats * c.room + length path
+  pub path_long : (p : ℕ) (path : List Float) → p ≤ last_place c → length (path_of c (at c p) path) ≡ point_floats * c.room + length path
 
 -- What the statement on the record and the buffers takes besides: the matrix is read back from them, and how long the lists of a place are.
 pub record Parts (c : Task) : Type 0 where
   pub read_back : (p : ℕ) (m : Option ℕ) (floats : List Float) (words : List ℕ) → p ≤ last_place c → MarkIn m (last_place c)
       → matrix (words_of c words) (floats_of c (at c p) m floats) (matrix_at (vertex_count c) (triangle_count c)) ≡ matrix_of c
-  pub right-long : length (right_of c) ≡ vertex_count c
-  pub values-long : length (values_of (matrix_of c)) ≤ 9 * triangle_count c + vertex_count c
-  pub x-long : (p : ℕ) → p ≤ last_place c → length (at c p).field.solve.x ≡ vertex_count c
-  pub r-long : (p : ℕ) → p ≤ last_place c → length (at c p).field.solve.r ≡ vertex_count c
-  pub p-long : (p : ℕ) → p ≤ last_place c → length (at c p).field.solve.p ≡ vertex_count c
-  pub gradients-long : (p : ℕ) → p ≤ last_place c → length (at c p).trail.gradients ≡ 2 * triangle_count c
-  pub norms-long : (p : ℕ) → p ≤ last_place c → length (at c p).field.norms ≤ c.limit + 1
-  pub path-counted : (p : ℕ) → p ≤ last_place c → length (coordinates_of (at c p).trail.path) ≡ point_floats * (at c p).trail.walk.points
-  pub points-in : (p : ℕ) → p ≤ last_place c → (at c p).trail.walk.points ≤ c.room
+  pub right_long : length (right_of c) ≡ vertex_count c
+  pub values_long : length (values_of (matrix_of c)) ≤ 9 * triangle_count c + vertex_count c
+  pub x_long : (p : ℕ) → p ≤ last_place c → length (at c p).field.solve.x ≡ vertex_count c
+  pub r_long : (p : ℕ) → p ≤ last_place c → length (at c p).field.solve.r ≡ vertex_count c
+  pub p_long : (p : ℕ) → p ≤ last_place c → length (at c p).field.solve.p ≡ vertex_count c
+  pub gradients_long : (p : ℕ) → p ≤ last_place c → length (at c p).trail.gradients ≡ 2 * triangle_count c
+  pub norms_long : (p : ℕ) → p ≤ last_place c → length (at c p).field.norms ≤ c.limit + 1
+  pub path_counted : (p : ℕ) → p ≤ last_place c → length (coordinates_of (at c p).trail.path) ≡ point_floats * (at c p).trail.walk.points
+  pub points_in_lem : (p : ℕ) → p ≤ last_place c → (at c p).trail.walk.points ≤ c.room

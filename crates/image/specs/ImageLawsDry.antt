@@ -22,11 +22,11 @@ use Rattle.work.specs.Memory.{Stepped, vectors_in, solved_step, set_out_step, so
 module _ (plan : Plan) (words : List ℕ) where
   -- ---- the front's length
 
-  solved-long : (s : Stand) (f : List Float) (u : Turn) → length (solved_step plan s f u).front ≡ length f
+  solved_long : (s : Stand) (f : List Float) (u : Turn) → length (solved_step plan s f u).front ≡ length f
   unfolding solved_step
-  solved-long s f halted = simp length-splice
-  solved-long s f (reached x r norm) = simp length-splice
-  solved-long s f (moved next norm) = simp length-splice
+  solved_long s f halted = simp length-splice
+  solved_long s f (reached x r norm) = simp length-splice
+  solved_long s f (moved next norm) = simp length-splice
 
   set_long : (s : Stand) (f : List Float) (k : ℕ) (st : Start) → length (set_out_step s f k st).front ≡ length f
   unfolding set_out_step
@@ -37,24 +37,24 @@ module _ (plan : Plan) (words : List ℕ) where
   start_long f s (Given.At p) = set_long s _ _ _ ∙ length-splice f _ _
   start_long f s Given.Nothing = set_long s _ _ _ ∙ length-splice f _ _
 
-  by-long : (f : List Float) (s : Stand) (x : Next) → length (step_by plan words f s x).front ≡ length f
+  by_long : (f : List Float) (s : Stand) (x : Next) → length (step_by plan words f s x).front ≡ length f
   unfolding solve_step begin_step cross_step
-  by-long f s over = refl
-  by-long f s solve = solved-long s f (Solver.pass flat (matrix words f (matrix_at plan.n plan.t)) plan.tolerance (vectors_in plan.n plan.t f s.rs))
-  by-long f s begin = start_long f s plan.start
-  by-long f s cross = refl
+  by_long f s over = refl
+  by_long f s solve = solved_long s f (Solver.pass flat (matrix words f (matrix_at plan.n plan.t)) plan.tolerance (vectors_in plan.n plan.t f s.rs))
+  by_long f s begin = start_long f s plan.start
+  by_long f s cross = refl
 
-  pub step-long : (f : List Float) (s : Stand) → length (step_on plan words f s).front ≡ length f
+  pub step_long : (f : List Float) (s : Stand) → length (step_on plan words f s).front ≡ length f
   unfolding step_on
-  step-long f s = by-long f s (next_of s)
+  step_long f s = by_long f s (next_of s)
 
   -- ---- a pass on the whole buffers
 
-  given-long : (s : Stand) (g : Gives) (m : List Float) → length (floats_given plan s g m) ≡ length m
-  given-long s Gives.Nothing m = refl
-  given-long s (Gives.Norm v) m = length-splice m _ _
-  given-long s (Gives.First p) m = refl
-  given-long s (Gives.Crossed x) m = refl
+  given_long : (s : Stand) (g : Gives) (m : List Float) → length (floats_given plan s g m) ≡ length m
+  given_long s Gives.Nothing m = refl
+  given_long s (Gives.Norm v) m = length-splice m _ _
+  given_long s (Gives.First p) m = refl
+  given_long s (Gives.Crossed x) m = refl
 
   given_front : (s : Stand) (g : Gives) (m : List Float) → front_of plan (floats_given plan s g m) ≡ front_of plan m
   given_front s Gives.Nothing m = refl
@@ -67,23 +67,23 @@ module _ (plan : Plan) (words : List ℕ) where
     d = step_on plan words (front_of plan w.floats) w.stand
 
     pub front_long : length d.front ≡ at_norms plan.n plan.t
-    front_long = step-long (front_of plan w.floats) w.stand ∙ length-take-le (at_norms plan.n plan.t) w.floats fits
+    front_long = step_long (front_of plan w.floats) w.stand ∙ length-take-le (at_norms plan.n plan.t) w.floats fits
 
-    pub joined-long : length (d.front ++ beyond_front plan w.floats) ≡ length w.floats
-    joined-long = length-append d.front (beyond_front plan w.floats) ∙ omega (arith, front_long, length-drop (at_norms plan.n plan.t) w.floats)
+    pub joined_long : length (d.front ++ beyond_front plan w.floats) ≡ length w.floats
+    joined_long = length-append d.front (beyond_front plan w.floats) ∙ omega (arith, front_long, length-drop (at_norms plan.n plan.t) w.floats)
 
-    pub once-long : length (once plan words w).floats ≡ length w.floats
+    pub once_long : length (once plan words w).floats ≡ length w.floats
     unfolding once
-    once-long = given-long w.stand d.gives (d.front ++ beyond_front plan w.floats) ∙ joined-long
+    once_long = given_long w.stand d.gives (d.front ++ beyond_front plan w.floats) ∙ joined_long
 
     once-front : front_of plan (once plan words w).floats ≡ d.front
     unfolding once
     once-front =
         given_front w.stand d.gives (d.front ++ beyond_front plan w.floats) ∙ take_at d.front (beyond_front plan w.floats) (at_norms plan.n plan.t) front_long
 
-    once-stand : (once plan words w).stand ≡ d.stand
+    once_stand : (once plan words w).stand ≡ d.stand
     unfolding once
-    once-stand = refl
+    once_stand = refl
 
   -- ---- passes in a row
 
@@ -92,27 +92,27 @@ module _ (plan : Plan) (words : List ℕ) where
     pub stand : e.stand ≡ w.stand
     pub as_long : length w.floats ≡ long
 
-  stepped-as : (e : Dry) (w : Work) (long : ℕ) → at_norms plan.n plan.t ≤ long → DryAs e w long
+  stepped_as : (e : Dry) (w : Work) (long : ℕ) → at_norms plan.n plan.t ≤ long → DryAs e w long
       → DryAs (record { front = (step_on plan words e.front e.stand).front; stand = (step_on plan words e.front e.stand).stand }) (once plan words w) long
-  stepped-as e w long h a =
+  stepped_as e w long h a =
       let fits : at_norms plan.n plan.t ≤ length w.floats = omega (arith, a.as_long) in
       let same : step_on plan words e.front e.stand ≡ step_on plan words (front_of plan w.floats) w.stand =
       ap (λ (f : List Float). step_on plan words f e.stand) a.front ∙ ap (λ (s : Stand). step_on plan words (front_of plan w.floats) s) a.stand in
       record {
         front = ap (λ (d : Stepped). d.front) same ∙ sym (once-front w fits);
-        stand = ap (λ (d : Stepped). d.stand) same ∙ sym (once-stand w fits);
-        as_long = once-long w fits ∙ a.as_long;
+        stand = ap (λ (d : Stepped). d.stand) same ∙ sym (once_stand w fits);
+        as_long = once_long w fits ∙ a.as_long;
       }
 
-  dry-as : (w : Work) → at_norms plan.n plan.t ≤ length w.floats → (k : ℕ)
+  dry_as : (w : Work) → at_norms plan.n plan.t ≤ length w.floats → (k : ℕ)
       → DryAs (dry plan words k (record { front = front_of plan w.floats; stand = w.stand })) (goes plan words k w) (length w.floats)
   unfolding dry goes
-  dry-as w h zero = record { front = refl; stand = refl; as_long = refl }
-  dry-as w h (suc k) = stepped-as (dry plan words k (record { front = front_of plan w.floats; stand = w.stand })) (goes plan words k w) (length w.floats) h (dry-as w h k)
+  dry_as w h zero = record { front = refl; stand = refl; as_long = refl }
+  dry_as w h (suc k) = stepped_as (dry plan words k (record { front = front_of plan w.floats; stand = w.stand })) (goes plan words k w) (length w.floats) h (dry_as w h k)
 
-  pub goes-long : (w : Work) → at_norms plan.n plan.t ≤ length w.floats → (k : ℕ) → length (goes plan words k w).floats ≡ length w.floats
-  goes-long w h k = (dry-as w h k).as_long
+  pub goes_long : (w : Work) → at_norms plan.n plan.t ≤ length w.floats → (k : ℕ) → length (goes plan words k w).floats ≡ length w.floats
+  goes_long w h k = (dry_as w h k).as_long
 
   pub dry-goes : (floats path : List Float) (s : Stand) → at_norms plan.n plan.t ≤ length floats → (k : ℕ)
       → (dry plan words k (record { front = front_of plan floats; stand = s })).stand ≡ (goes plan words k (work floats path s)).stand
-  dry-goes floats path s h k = (dry-as (work floats path s) h k).stand
+  dry-goes floats path s h k = (dry_as (work floats path s) h k).stand

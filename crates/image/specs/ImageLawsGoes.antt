@@ -15,8 +15,8 @@ use Rattle.model.specs.Sized.{Sized}
 use Rattle.model.specs.RunLaws.{last_first, last_finished}
 use Rattle.work.specs.Memory.{Work, once, goes, kept_floats}
 use Rattle.image.specs.Image.{plan_of, kept_vectors, floats_of, words_of}
-use Rattle.image.specs.ImageLawsSegments.{part-vectors, put-kept}
-use Rattle.image.specs.ImageLawsLengths.{shaped_at, laid, length_kept, length-norms}
+use Rattle.image.specs.ImageLawsSegments.{part_vectors, put_kept}
+use Rattle.image.specs.ImageLawsLengths.{shaped_at, laid, length_kept, length_norms}
 use Rattle.image.specs.ImageLawsPass.{image_work, once-over, once-image}
 
 module _ (c : Task) (z : Sized c) (m : Option ℕ) (floats : List Float) (words : List ℕ) (path : List Float) where
@@ -50,5 +50,5 @@ unfolding kept_floats floats_of
 mark_image c z p m floats =
     let norms = padded (c.limit + 1) plus_zero (at c p).field.norms in
     let l = laid c z (at c p) (shaped_at c z p) in
-    rw (part-vectors l (norms ∷ (kept_vectors c m ++ floats) ∷ []))
-    (put-kept l norms (kept_vectors c m) floats c.limit (length-norms c z (at c p) (shaped_at c z p)) (length_kept c m) ((at c p).field.solve.x ++ ((at c p).field.solve.r ++ (at c p).field.solve.p)) (length_kept c (some p)))
+    rw (part_vectors l (norms ∷ (kept_vectors c m ++ floats) ∷ []))
+    (put_kept l norms (kept_vectors c m) floats c.limit (length_norms c z (at c p) (shaped_at c z p)) (length_kept c m) ((at c p).field.solve.x ++ ((at c p).field.solve.r ++ (at c p).field.solve.p)) (length_kept c (some p)))

@@ -28,7 +28,7 @@ use Rattle.work.specs.declared.Stand.{Stand}
 use Rattle.work.specs.declared.Gives.{Gives}
 use Rattle.work.specs.Layout.{at_norms, matrix_at}
 use Rattle.work.specs.Memory.{Stepped, vectors_in, solved_step, set_out_step, solve_step, start_by, begin_step, crossing_of, cross_step, step_by, next_of, step_on, Work, floats_given, path_given, front_of, beyond_front, once}
-use Rattle.image.specs.ImageLawsDry.{front_long, joined-long}
+use Rattle.image.specs.ImageLawsDry.{front_long, joined_long}
 
 -- ---- one list
 
@@ -100,56 +100,56 @@ record Fine (plan : Plan) (s : Stand) (d : Stepped) : Type 0 where
   stand : InRange plan d.stand
 
 module _ (plan : Plan) (words : List ℕ) (room : 1 ≤ plan.room) where
-  solved-fine : (s : Stand) (f : List Float) (u : Turn) → InRange plan s → s.norms ≤ plan.limit → Fine plan s (solved_step plan s f u)
+  solved_fine : (s : Stand) (f : List Float) (u : Turn) → InRange plan s → s.norms ≤ plan.limit → Fine plan s (solved_step plan s f u)
   unfolding solved_step
-  solved-fine s f halted h k = record { gives = tt; stand = record { norms = omega arith; points = h.points } }
-  solved-fine s f (reached x r norm) h k = record { gives = k; stand = record { norms = omega arith; points = h.points } }
-  solved-fine s f (moved next norm) h k = record { gives = k; stand = record { norms = go (leb plan.limit s.norms) refl; points = h.points } }
+  solved_fine s f halted h k = record { gives = tt; stand = record { norms = omega arith; points = h.points } }
+  solved_fine s f (reached x r norm) h k = record { gives = k; stand = record { norms = omega arith; points = h.points } }
+  solved_fine s f (moved next norm) h k = record { gives = k; stand = record { norms = go (leb plan.limit s.norms) refl; points = h.points } }
     where
       go : (b : Bool) → leb plan.limit s.norms ≡ b → s.norms + 1 ≤ plan.limit + pick (eqb (pick {A = ℕ} b 3 0) 0) 0 1
       go true e = omega arith
       go false e = omega (arith, leb-false plan.limit s.norms e)
 
-  set-fine : (s : Stand) (f : List Float) (k : ℕ) (st : Start) → InRange plan s → Fine plan s (set_out_step s f k st)
+  set_fine : (s : Stand) (f : List Float) (k : ℕ) (st : Start) → InRange plan s → Fine plan s (set_out_step s f k st)
   unfolding set_out_step
-  set-fine s f k (Start.At p t e) h = record { gives = room; stand = record { norms = h.norms; points = room } }
-  set-fine s f k Start.Nothing h = record { gives = tt; stand = record { norms = h.norms; points = omega arith } }
+  set_fine s f k (Start.At p t e) h = record { gives = room; stand = record { norms = h.norms; points = room } }
+  set_fine s f k Start.Nothing h = record { gives = tt; stand = record { norms = h.norms; points = omega arith } }
 
   start_fine : (f : List Float) (s : Stand) (g : Given) → InRange plan s → Fine plan s (start_by plan words f s g)
-  start_fine f s (Given.At p) h = set-fine s _ _ _ h
-  start_fine f s Given.Nothing h = set-fine s _ _ _ h
+  start_fine f s (Given.At p) h = set_fine s _ _ _ h
+  start_fine f s Given.Nothing h = set_fine s _ _ _ h
 
-  cross-fine : (f : List Float) (s : Stand) → InRange plan s → Fine plan s (cross_step plan words f s)
+  cross_fine : (f : List Float) (s : Stand) → InRange plan s → Fine plan s (cross_step plan words f s)
   unfolding cross_step
-  cross-fine f s h =
+  cross_fine f s h =
       record { gives = h.points; stand = record { norms = h.norms; points = walked-most plan.room (eqb (s.crossings + 1) (factor * plan.t)) s.walk (crossing_of plan words f s) h.points } }
 
-  by-fine : (f : List Float) (s : Stand) → InRange plan s → (e b g : Bool) → eqb s.end 0 ≡ b → Fine plan s (step_by plan words f s (next_by e b g))
+  by_fine : (f : List Float) (s : Stand) → InRange plan s → (e b g : Bool) → eqb s.end 0 ≡ b → Fine plan s (step_by plan words f s (next_by e b g))
   unfolding solve_step begin_step
-  by-fine f s h false b g q = record { gives = tt; stand = h }
-  by-fine f s h true true g q =
+  by_fine f s h false b g q = record { gives = tt; stand = h }
+  by_fine f s h true true g q =
       let k : s.norms ≤ plan.limit + pick true 0 1 = rw q at h.norms in
-      solved-fine s f (Solver.pass flat (matrix words f (matrix_at plan.n plan.t)) plan.tolerance (vectors_in plan.n plan.t f s.rs)) h (omega arith)
-  by-fine f s h true false true q = start_fine f s plan.start h
-  by-fine f s h true false false q = cross-fine f s h
+      solved_fine s f (Solver.pass flat (matrix words f (matrix_at plan.n plan.t)) plan.tolerance (vectors_in plan.n plan.t f s.rs)) h (omega arith)
+  by_fine f s h true false true q = start_fine f s plan.start h
+  by_fine f s h true false false q = cross_fine f s h
 
-  step-fine : (f : List Float) (s : Stand) → InRange plan s → Fine plan s (step_on plan words f s)
+  step_fine : (f : List Float) (s : Stand) → InRange plan s → Fine plan s (step_on plan words f s)
   unfolding step_on next_of
-  step-fine f s h = by-fine f s h (eqb s.walk.end 0) (eqb s.end 0) (eqb s.walk.points 0) refl
+  step_fine f s h = by_fine f s h (eqb s.walk.end 0) (eqb s.end 0) (eqb s.walk.points 0) refl
 
   -- ---- what is written of it
 
-  floats-given : (s : Stand) (g : Gives) (l m : List Float) → GivesIn plan s g → Kept-from (used_by plan) l m → Kept-from (used_by plan) l (floats_given plan s g m)
-  floats-given s Gives.Nothing l m h a = a
-  floats-given s (Gives.Norm v) l m h a = then_splice a (at_norms plan.n plan.t + s.norms) (v ∷ []) (omega arith)
-  floats-given s (Gives.First p) l m h a = a
-  floats-given s (Gives.Crossed x) l m h a = a
+  floats_given_lem : (s : Stand) (g : Gives) (l m : List Float) → GivesIn plan s g → Kept-from (used_by plan) l m → Kept-from (used_by plan) l (floats_given plan s g m)
+  floats_given_lem s Gives.Nothing l m h a = a
+  floats_given_lem s (Gives.Norm v) l m h a = then_splice a (at_norms plan.n plan.t + s.norms) (v ∷ []) (omega arith)
+  floats_given_lem s (Gives.First p) l m h a = a
+  floats_given_lem s (Gives.Crossed x) l m h a = a
 
-  path-given : (s : Stand) (g : Gives) (p : List Float) → GivesIn plan s g → Kept-from (point_floats * plan.room) p (path_given plan s g p)
-  path-given s Gives.Nothing p h = same (point_floats * plan.room) p
-  path-given s (Gives.Norm v) p h = same (point_floats * plan.room) p
-  path-given s (Gives.First q) p h = kept_splice (point_floats * plan.room) p 0 (coordinates_of (q ∷ [])) (omega (arith, length_coordinates (q ∷ [])))
-  path-given s (Gives.Crossed x) p h = kept_splice (point_floats * plan.room) p (point_floats * s.walk.points) (coordinates_of (added plan.room s.walk x)) (crossing-fits plan.room true s.walk x h)
+  path_given_lem : (s : Stand) (g : Gives) (p : List Float) → GivesIn plan s g → Kept-from (point_floats * plan.room) p (path_given plan s g p)
+  path_given_lem s Gives.Nothing p h = same (point_floats * plan.room) p
+  path_given_lem s (Gives.Norm v) p h = same (point_floats * plan.room) p
+  path_given_lem s (Gives.First q) p h = kept_splice (point_floats * plan.room) p 0 (coordinates_of (q ∷ [])) (omega (arith, length_coordinates (q ∷ [])))
+  path_given_lem s (Gives.Crossed x) p h = kept_splice (point_floats * plan.room) p (point_floats * s.walk.points) (coordinates_of (added plan.room s.walk x)) (crossing-fits plan.room true s.walk x h)
 
   -- a changed front, and what lies beyond it
   module _ (w : Work) (fits : at_norms plan.n plan.t ≤ length w.floats) where
@@ -159,22 +159,22 @@ module _ (plan : Plan) (words : List ℕ) (room : 1 ≤ plan.room) where
         let a = at_norms plan.n plan.t in
         let e : a ≡ length d = sym (front_long plan words w fits) in
         record {
-          long = joined-long plan words w fits;
+          long = joined_long plan words w fits;
           rest =
               ap (λ (i : ℕ). drop (i + (plan.limit + 1 + 3 * plan.n)) (d ++ beyond_front plan w.floats)) e
               ∙ drop-append-add d (beyond_front plan w.floats) (plan.limit + 1 + 3 * plan.n)
               ∙ drop-drop (plan.limit + 1 + 3 * plan.n) a w.floats;
         }
 
-    pub keeps-once : InRange plan w.stand → Keeps plan w (once plan words w)
+    pub keeps_once : InRange plan w.stand → Keeps plan w (once plan words w)
     unfolding once
-    keeps-once h =
-        let f = step-fine (front_of plan w.floats) w.stand h in
+    keeps_once h =
+        let f = step_fine (front_of plan w.floats) w.stand h in
         record {
-          floats = floats-given w.stand (step_on plan words (front_of plan w.floats) w.stand).gives w.floats _ f.gives front_kept;
-          path = path-given w.stand (step_on plan words (front_of plan w.floats) w.stand).gives w.path f.gives;
+          floats = floats_given_lem w.stand (step_on plan words (front_of plan w.floats) w.stand).gives w.floats _ f.gives front_kept;
+          path = path_given_lem w.stand (step_on plan words (front_of plan w.floats) w.stand).gives w.path f.gives;
         }
 
-    pub in-once : InRange plan w.stand → InRange plan (once plan words w).stand
+    pub in_once : InRange plan w.stand → InRange plan (once plan words w).stand
     unfolding once
-    in-once h = (step-fine (front_of plan w.floats) w.stand h).stand
+    in_once h = (step_fine (front_of plan w.floats) w.stand h).stand

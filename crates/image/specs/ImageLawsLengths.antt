@@ -8,7 +8,7 @@ use Rattle.std.proofs.Math.ListN.{length, length-append}
 use Rattle.std.proofs.lemmas.List.{length-replicate}
 use Rattle.binary64.specs.Constants.{plus_zero}
 use Rattle.stretch.specs.Stretch.{flat, off}
-use Rattle.stretch.specs.SegmentLaws.{flat-snoc, length-flat}
+use Rattle.stretch.specs.SegmentLaws.{flat_snoc, length-flat}
 use Rattle.mesh.specs.Element as element
 use Rattle.laplace.specs.Matrix.{few_entries}
 use Rattle.laplace.specs.Placed.{values_of, columns_of, starts_of, padded}
@@ -57,8 +57,8 @@ length_kept_values c z = length-padded (9 * triangle_count c + vertex_count c) p
 pub length_kept_columns : (c : Task) → Sized c → length (padded (9 * triangle_count c + vertex_count c) 0 (columns_of (matrix_of c))) ≡ 9 * triangle_count c + vertex_count c
 length_kept_columns c z = length-padded (9 * triangle_count c + vertex_count c) 0 (columns_of (matrix_of c)) (omega (arith, few c z, length_columns (matrix_of c)))
 
-pub length-row_starts : (c : Task) → length (starts_of (matrix_of c)) ≡ vertex_count c + 1
-length-row_starts c = length_starts 0 (matrix_of c) ∙ ap (λ (k : ℕ). k + 1) (matrix-length c)
+pub length_row_starts : (c : Task) → length (starts_of (matrix_of c)) ≡ vertex_count c + 1
+length_row_starts c = length_starts 0 (matrix_of c) ∙ ap (λ (k : ℕ). k + 1) (matrix-length c)
 
 -- ---- the kept vectors
 
@@ -88,31 +88,31 @@ module _ (c : Task) (z : Sized c) (s : State) (h : Shaped c s) where
     right = right_length c;
     row = length-replicate (vertex_count c) plus_zero;
     values = length_kept_values c z;
-    x-long = h.vectors.x;
-    r-long = h.vectors.r;
-    p-long = h.vectors.p;
+    x_long = h.vectors.x;
+    r_long = h.vectors.r;
+    p_long = h.vectors.p;
     product = length-replicate (vertex_count c) plus_zero;
     gradients = h.gradients;
   }
 
-  pub length-norms : length (padded (c.limit + 1) plus_zero s.field.norms) ≡ c.limit + 1
-  length-norms = length-padded (c.limit + 1) plus_zero s.field.norms h.norms
+  pub length_norms : length (padded (c.limit + 1) plus_zero s.field.norms) ≡ c.limit + 1
+  length_norms = length-padded (c.limit + 1) plus_zero s.field.norms h.norms
 
-  pub length-floats : (m : Option ℕ) (rest : List Float) → length (floats_of c s m rest) ≡ floats_used c + length rest
+  pub length_floats : (m : Option ℕ) (rest : List Float) → length (floats_of c s m rest) ≡ floats_used c + length rest
   unfolding floats_of off
-  length-floats m rest =
+  length_floats m rest =
       let l : Lies c s.field.solve.x s.field.solve.r s.field.solve.p s.trail.gradients = laid in
-      length-flat (float_segments c s m rest) ∙ omega (arith, length-norms, length-append (kept_vectors c m) rest, length_kept c m)
+      length-flat (float_segments c s m rest) ∙ omega (arith, length_norms, length-append (kept_vectors c m) rest, length_kept c m)
 
   -- the points, as floats, fit the room
-  pub length-points : length (coordinates_of s.trail.path) ≡ point_floats * s.trail.walk.points
-  length-points = length_coordinates s.trail.path ∙ ap (λ (k : ℕ). point_floats * k) h.path
+  pub length_points : length (coordinates_of s.trail.path) ≡ point_floats * s.trail.walk.points
+  length_points = length_coordinates s.trail.path ∙ ap (λ (k : ℕ). point_floats * k) h.path
 
-  pub length-path : (rest : List Float) → length (path_of c s rest) ≡ 2 * c.room + length rest
+  pub length_path : (rest : List Float) → length (path_of c s rest) ≡ 2 * c.room + length rest
   unfolding path_of
-  length-path rest =
+  length_path rest =
       length-append (padded (point_floats * c.room) plus_zero (coordinates_of s.trail.path)) rest
-      ∙ ap (λ (k : ℕ). k + length rest) (length-padded (point_floats * c.room) plus_zero (coordinates_of s.trail.path) (omega (arith, length-points, h.room)))
+      ∙ ap (λ (k : ℕ). k + length rest) (length-padded (point_floats * c.room) plus_zero (coordinates_of s.trail.path) (omega (arith, length_points, h.room)))
 
 -- ---- the words
 
@@ -133,20 +133,20 @@ pub length_words : (c : Task) → Sized c → (rest : List ℕ) → length (word
 unfolding words_of off
 length_words c z rest =
     length-flat (word_segments c ++ (rest ∷ []))
-    ∙ omega (arith, length-row_starts c, length_kept_columns c z, length-replicate {A = ℕ} (vertex_count c) 0, length-replicate {A = ℕ} (3 * triangle_count c) 0)
+    ∙ omega (arith, length_row_starts c, length_kept_columns c z, length-replicate {A = ℕ} (vertex_count c) 0, length-replicate {A = ℕ} (3 * triangle_count c) 0)
 
 -- ---- the places used, and what was lent beyond them
 
 split : {A : Type 0} (ss : List (List A)) (rest : List A) → flat (ss ++ (rest ∷ [])) ≡ flat (ss ++ ([] ∷ [])) ++ rest
-split {A} ss rest = flat-snoc ss rest ∙ ap (λ (l : List A). l ++ rest) (sym (flat-snoc ss [] ∙ append-nil (flat ss)))
+split {A} ss rest = flat_snoc ss rest ∙ ap (λ (l : List A). l ++ rest) (sym (flat_snoc ss [] ∙ append-nil (flat ss)))
 
 pub floats_split : (c : Task) (s : State) (m : Option ℕ) (rest : List Float) → floats_of c s m rest ≡ floats_of c s m [] ++ rest
 unfolding floats_of
 floats_split c s m rest =
     let ss = front_segments c s ++ (padded (c.limit + 1) plus_zero s.field.norms ∷ []) in
-    flat-snoc ss (kept_vectors c m ++ rest)
+    flat_snoc ss (kept_vectors c m ++ rest)
     ∙ sym (append_assoc (flat ss) (kept_vectors c m) rest)
-    ∙ ap (λ (l : List Float). l ++ rest) (sym (flat-snoc ss (kept_vectors c m ++ []) ∙ ap (λ (l : List Float). flat ss ++ l) (append-nil (kept_vectors c m))))
+    ∙ ap (λ (l : List Float). l ++ rest) (sym (flat_snoc ss (kept_vectors c m ++ []) ∙ ap (λ (l : List Float). flat ss ++ l) (append-nil (kept_vectors c m))))
 
 pub words_split : (c : Task) (rest : List ℕ) → words_of c rest ≡ words_of c [] ++ rest
 unfolding words_of

@@ -10,8 +10,8 @@ use Rattle.std.proofs.Math.ListN.{length, get_or}
 use Rattle.std.proofs.lemmas.List.{length-map}
 use Rattle.std.proofs.Math.Seq.{take-length}
 use Rattle.stretch.specs.Stretch.{part, flat, off}
-use Rattle.stretch.specs.StretchLaws.{part-part, get_d_part}
-use Rattle.stretch.specs.SegmentLaws.{part-seg, seg-fits, off-suc}
+use Rattle.stretch.specs.StretchLaws.{part_part, get_d_part}
+use Rattle.stretch.specs.SegmentLaws.{part_seg, seg_fits, off_suc}
 use Rattle.sparse.specs.Sparse.{Entry, entries}
 use Rattle.sparse.specs.declared.Csr.{Csr}
 use Rattle.sparse.specs.Stored.{row_at, rows_of}
@@ -86,7 +86,7 @@ part_row : {B : Type 0} (f : Entry → B) (rs : List (List Entry)) (i : ℕ) →
     → part (map f (flat rs)) (off rs i) (length (get_or rs i [])) ≡ map f (get_or rs i [])
 part_row f rs i h =
     part_map f (flat rs) (off rs i) (length (get_or rs i []))
-    ∙ ap (λ (l : List Entry). map f l) (part-seg rs i (off rs i) (length (get_or rs i [])) refl h refl)
+    ∙ ap (λ (l : List Entry). map f l) (part_seg rs i (off rs i) (length (get_or rs i [])) refl h refl)
 
 entries-map : (es : List Entry) → entries (map col es) (map value es) ≡ es
 unfolding entries
@@ -104,16 +104,16 @@ module _ (words : List ℕ) (floats : List Float) (m : Csr) (rs : List (List Ent
   end_is : (i : ℕ) → i < length rs → get_or words (m.starts + i + 1) 0 ≡ off rs i + length (get_or rs i [])
   end_is i h =
       let e : m.starts + i + 1 ≡ m.starts + suc i = omega arith in
-      ap (λ (k : ℕ). get_or words k 0) e ∙ start_is (suc i) h ∙ off-suc rs i
+      ap (λ (k : ℕ). get_or words k 0) e ∙ start_is (suc i) h ∙ off_suc rs i
 
-  columns-is : (i : ℕ) → i < length rs → part words (m.cols + off rs i) (length (get_or rs i [])) ≡ map col (get_or rs i [])
-  columns-is i h =
-      sym (part-part words m.cols (length (flat rs)) (off rs i) (length (get_or rs i [])) (seg-fits rs i))
+  columns_is : (i : ℕ) → i < length rs → part words (m.cols + off rs i) (length (get_or rs i [])) ≡ map col (get_or rs i [])
+  columns_is i h =
+      sym (part_part words m.cols (length (flat rs)) (off rs i) (length (get_or rs i [])) (seg_fits rs i))
       ∙ ap (λ (l : List ℕ). part l (off rs i) (length (get_or rs i []))) (cols ∙ columns_flat rs) ∙ part_row col rs i h
 
-  values-is : (i : ℕ) → i < length rs → part floats (m.vals + off rs i) (length (get_or rs i [])) ≡ map value (get_or rs i [])
-  values-is i h =
-      sym (part-part floats m.vals (length (flat rs)) (off rs i) (length (get_or rs i [])) (seg-fits rs i))
+  values_is : (i : ℕ) → i < length rs → part floats (m.vals + off rs i) (length (get_or rs i [])) ≡ map value (get_or rs i [])
+  values_is i h =
+      sym (part_part floats m.vals (length (flat rs)) (off rs i) (length (get_or rs i [])) (seg_fits rs i))
       ∙ ap (λ (l : List Float). part l (off rs i) (length (get_or rs i []))) (vals ∙ values_flat rs) ∙ part_row value rs i h
 
   row_is : (i : ℕ) → i < length rs → row_at words floats m i ≡ get_or rs i []
@@ -122,7 +122,7 @@ module _ (words : List ℕ) (floats : List Float) (m : Csr) (rs : List (List Ent
       let s : get_or words (m.starts + i) 0 ≡ off rs i = start_is i (omega arith) in
       let e : get_or words (m.starts + i + 1) 0 ≡ off rs i + length (get_or rs i []) = end_is i h in
       let k : off rs i + length (get_or rs i []) - off rs i ≡ length (get_or rs i []) = omega arith in
-      rw (s, e, k, columns-is i h, values-is i h) (entries-map (get_or rs i []))
+      rw (s, e, k, columns_is i h, values_is i h) (entries-map (get_or rs i []))
 
   rows_are : (k : ℕ) → k ≤ length rs → rows_of words floats m k ≡ take k rs
   unfolding rows_of

@@ -8,7 +8,7 @@ use native.Mathlib.Omega.{arith}
 use Rattle.std.proofs.Math.ListN.{length, replicate, length-append, replicate-append-replicate}
 use Rattle.std.proofs.lemmas.List.{length-replicate}
 use Rattle.stretch.specs.Stretch.{part, splice}
-use Rattle.stretch.specs.StretchLaws.{part-front, part-all, splice-front-all, splice-rest}
+use Rattle.stretch.specs.StretchLaws.{part_front, part_all, splice-front-all, splice_rest}
 use Rattle.laplace.specs.Placed.{padded}
 
 module _ {A : Type 0} where
@@ -16,17 +16,17 @@ module _ {A : Type 0} where
   unfolding padded
   length-padded k d xs h = length-append xs (replicate (k - length xs) d) ∙ ap (λ (j : ℕ). length xs + j) (length-replicate (k - length xs) d) ∙ omega arith
 
-  pub part-padded : (k : ℕ) (d : A) (xs : List A) (n : ℕ) → length xs ≡ n → part (padded k d xs) 0 n ≡ xs
+  pub part_padded : (k : ℕ) (d : A) (xs : List A) (n : ℕ) → length xs ≡ n → part (padded k d xs) 0 n ≡ xs
   unfolding padded
-  part-padded k d xs n e = part-front xs (replicate (k - length xs) d) 0 n (omega arith) ∙ part-all xs n (omega arith)
+  part_padded k d xs n e = part_front xs (replicate (k - length xs) d) 0 n (omega arith) ∙ part_all xs n (omega arith)
 
   -- nothing but padding
-  pub padded-nil : (k : ℕ) (d : A) → padded k d [] ≡ replicate k d
+  pub padded_nil : (k : ℕ) (d : A) → padded k d [] ≡ replicate k d
   unfolding padded
-  padded-nil k d = let e : k - 0 ≡ k = omega arith in rw e
+  padded_nil k d = let e : k - 0 ≡ k = omega arith in rw e
 
-  splice-padding : (j : ℕ) (d : A) (new : List A) → length new ≤ j → splice (replicate j d) 0 new ≡ new ++ replicate (j - length new) d
-  splice-padding j d new h =
+  splice_padding : (j : ℕ) (d : A) (new : List A) → length new ≤ j → splice (replicate j d) 0 new ≡ new ++ replicate (j - length new) d
+  splice_padding j d new h =
       let e : j ≡ length new + (j - length new) = omega arith in
       ap (λ (i : ℕ). splice (replicate i d) 0 new) e
       ∙ ap (λ (l : List A). splice l 0 new) (sym (replicate-append-replicate (length new) (j - length new) d))
@@ -39,8 +39,8 @@ module _ {A : Type 0} where
       let a : at ≡ length xs + 0 = omega arith in
       let j : k - length xs - length new ≡ k - length (xs ++ new) = omega (arith, length-append xs new) in
       ap (λ (i : ℕ). splice (xs ++ replicate (k - length xs) d) i new) a
-      ∙ splice-rest xs (replicate (k - length xs) d) 0 new
-      ∙ ap (λ (l : List A). xs ++ l) (splice-padding (k - length xs) d new (omega arith))
+      ∙ splice_rest xs (replicate (k - length xs) d) 0 new
+      ∙ ap (λ (l : List A). xs ++ l) (splice_padding (k - length xs) d new (omega arith))
       ∙ sym (append_assoc xs new (replicate (k - length xs - length new) d))
       ∙ ap (λ (i : ℕ). xs ++ new ++ replicate i d) j
 
@@ -53,9 +53,9 @@ module _ {A : Type 0} where
       let j : n + (k - length (xs ++ ys)) ≡ k - length xs = omega (arith, length-append xs ys) in
       ap (λ (l : List A). splice l at (replicate n d)) (append_assoc xs ys z)
       ∙ ap (λ (i : ℕ). splice (xs ++ (ys ++ z)) i (replicate n d)) a
-      ∙ splice-rest xs (ys ++ z) 0 (replicate n d)
+      ∙ splice_rest xs (ys ++ z) 0 (replicate n d)
       ∙ ap (λ (l : List A). xs ++ l) (splice-front-all ys z (replicate n d) (length-replicate n d ∙ sym f) ∙ replicate-append-replicate n (k - length (xs ++ ys)) d)
       ∙ ap (λ (i : ℕ). xs ++ replicate i d) j
 
-  pub padded-erased : (k : ℕ) (d : A) (xs : List A) (n : ℕ) → length xs ≡ n → n ≤ k → splice (padded k d xs) 0 (replicate n d) ≡ padded k d []
-  padded-erased k d xs n e h = padded-cut k d [] xs 0 n refl e (omega arith)
+  pub padded_erased : (k : ℕ) (d : A) (xs : List A) (n : ℕ) → length xs ≡ n → n ≤ k → splice (padded k d xs) 0 (replicate n d) ≡ padded k d []
+  padded_erased k d xs n e h = padded-cut k d [] xs 0 n refl e (omega arith)

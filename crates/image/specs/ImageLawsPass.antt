@@ -36,10 +36,10 @@ use Rattle.work.specs.Layout.{at_norms}
 use Rattle.work.specs.Memory.{Stepped, solved_stand, solved_step, set_out_step, solve_step, start_by, begin_step, cross_step, step_by, next_of, step_on, Work, work, floats_given, path_given, front_of, beyond_front, once}
 use Rattle.image.specs.Image.{given_of, plan_of, stand_of, kept_vectors, front_segments, floats_of, words_of, path_of}
 use Rattle.image.specs.ImageLawsPadded.{length-padded, padded-more}
-use Rattle.image.specs.ImageLawsSegments.{laid-x, laid-r, laid-p, laid-gradients, front-segs, beyond-segs, joined-segs, part-vertices, part-values, part-x, part-r, part-p, part-gradients, put-gradients}
+use Rattle.image.specs.ImageLawsSegments.{laid_x, laid_r, laid_p, laid_gradients, front_segs, beyond_segs, joined_segs, part_vertices, part_values, part_x, part_r, part_p, part_gradients, put_gradients}
 use Rattle.image.specs.ImageLawsLengths.{Shaped, fronts, Lies, shaped_at, laid}
-use Rattle.image.specs.ImageLawsRead.{words-triangles, words-neighbours, words-tags, matrix-read}
-use Rattle.image.specs.ImageLawsStep.{clear-segs, reached-segs, moved-segs, norm-segs}
+use Rattle.image.specs.ImageLawsRead.{words_triangles, words_neighbours, words_tags, matrix-read}
+use Rattle.image.specs.ImageLawsStep.{clear_segs, reached_segs, moved_segs, norm_segs}
 
 -- the buffers and the scalars of a state, at place p and with a mark
 abbrev pub image_of : Task → State → ℕ → Option ℕ → List Float → List Float → Work
@@ -95,18 +95,18 @@ module _ (c : Task) (z : Sized c) (s : State) (h : Shaped c s) (p : ℕ) (m : Op
   lies : Lies c s.field.solve.x s.field.solve.r s.field.solve.p s.trail.gradients
   lies = laid c z s h
 
-  front-is : front_of plan (floats_of c s m floats) ≡ F
+  front_is : front_of plan (floats_of c s m floats) ≡ F
   unfolding floats_of
-  front-is = front-segs lies back
+  front_is = front_segs lies back
 
-  beyond-is : beyond_front plan (floats_of c s m floats) ≡ flat back
+  beyond_is : beyond_front plan (floats_of c s m floats) ≡ flat back
   unfolding floats_of
-  beyond-is = beyond-segs lies back
+  beyond_is = beyond_segs lies back
 
   -- a step that gives no norm
   plain : {x r q g : List Float} → Lies c x r q g → (f : List Float) → f ≡ flat (fronts c x r q g []) → f ++ beyond_front plan (floats_of c s m floats) ≡ flat (fronts c x r q g back)
   plain {x} {r} {q} {g} l f e =
-      ap (λ (y : List Float). y ++ beyond_front plan (floats_of c s m floats)) e ∙ ap (λ (y : List Float). flat (fronts c x r q g []) ++ y) beyond-is ∙ joined-segs l back
+      ap (λ (y : List Float). y ++ beyond_front plan (floats_of c s m floats)) e ∙ ap (λ (y : List Float). flat (fronts c x r q g []) ++ y) beyond_is ∙ joined_segs l back
 
   -- a step that gives one
   normed : {x r q g : List Float} → Lies c x r q g → (f : List Float) (v : Float) → f ≡ flat (fronts c x r q g []) → length s.field.norms + 1 ≤ c.limit + 1
@@ -114,39 +114,39 @@ module _ (c : Task) (z : Sized c) (s : State) (h : Shaped c s) (p : ℕ) (m : Op
       ≡ flat (fronts c x r q g (padded (c.limit + 1) plus_zero (s.field.norms ++ (v ∷ [])) ∷ rest ∷ []))
   normed {x} {r} {q} {g} l f v e k =
       ap (λ (y : List Float). splice (y ++ beyond_front plan (floats_of c s m floats)) (at_norms n t + length s.field.norms) (v ∷ [])) e
-      ∙ ap (λ (y : List Float). splice (flat (fronts c x r q g []) ++ y) (at_norms n t + length s.field.norms) (v ∷ [])) beyond-is
-      ∙ norm-segs l (c.limit + 1) s.field.norms rest v k
+      ∙ ap (λ (y : List Float). splice (flat (fronts c x r q g []) ++ y) (at_norms n t + length s.field.norms) (v ∷ [])) beyond_is
+      ∙ norm_segs l (c.limit + 1) s.field.norms rest v k
 
   -- ---- a pass of solving
 
-  solved-stand : (rs : Float) (k k' e : ℕ) → k ≡ k'
+  solved_stand_lem : (rs : Float) (k k' e : ℕ) → k ≡ k'
       → solved_stand (stand_of p s) rs k e ≡ record { place = suc p; rs = rs; norms = k'; end = e; walk = s.trail.walk; crossings = s.trail.crossings }
-  solved-stand rs k k' e q = rw (q, add-one p)
+  solved_stand_lem rs k k' e q = rw (q, add-one p)
 
   solved-image : (u : Turn) → Shaped c (state (solved c.limit s.field u) s.trail)
       → written plan here (solved_step plan (stand_of p s) F u) ≡ image_of c (state (solved c.limit s.field u) s.trail) (suc p) m floats path
   unfolding solved_step solved floats_of path_of
-  solved-image halted h' = work_is (plain lies _ (clear-segs lies [])) refl (solved-stand _ _ _ _ refl)
+  solved-image halted h' = work_is (plain lies _ (clear_segs lies [])) refl (solved_stand_lem _ _ _ _ refl)
   solved-image (reached x r norm) h' =
       let long : length s.field.norms + 1 ≡ length (s.field.norms ++ (norm ∷ [])) = sym (length-append s.field.norms (norm ∷ [])) in
       let fits : length (s.field.norms ++ (norm ∷ [])) ≤ c.limit + 1 = h'.norms in
       let ex : length x ≡ n = h'.vectors.x in
       let er : length r ≡ n = h'.vectors.r in
-      work_is (normed (laid-r (laid-x lies ex) er) _ norm (reached-segs lies [] x r ex er) (omega arith)) refl (solved-stand _ _ _ _ long)
+      work_is (normed (laid_r (laid_x lies ex) er) _ norm (reached_segs lies [] x r ex er) (omega arith)) refl (solved_stand_lem _ _ _ _ long)
   solved-image (moved next norm) h' =
       let long : length s.field.norms + 1 ≡ length (s.field.norms ++ (norm ∷ [])) = sym (length-append s.field.norms (norm ∷ [])) in
       let fits : length (s.field.norms ++ (norm ∷ [])) ≤ c.limit + 1 = h'.norms in
       let v : Vectors n next = h'.vectors in
-      work_is (normed (laid-p (laid-r (laid-x lies v.x) v.r) v.p) _ norm (moved-segs lies [] next.x next.r next.p v.x v.r v.p) (omega arith))
-      refl (solved-stand _ _ _ _ long)
+      work_is (normed (laid_p (laid_r (laid_x lies v.x) v.r) v.p) _ norm (moved_segs lies [] next.x next.r next.p v.x v.r v.p) (omega arith))
+      refl (solved_stand_lem _ _ _ _ long)
 
-  solve-step : solve_step plan W F (stand_of p s) ≡ solved_step plan (stand_of p s) F (Solver.pass element.flat (matrix_of c) c.tolerance s.field.solve)
+  solve_step_lem : solve_step plan W F (stand_of p s) ≡ solved_step plan (stand_of p s) F (Solver.pass element.flat (matrix_of c) c.tolerance s.field.solve)
   unfolding solve_step
-  solve-step = rw (matrix-read c z words F (part-values lies []), part-x lies [], part-r lies [], part-p lies [])
+  solve_step_lem = rw (matrix-read c z words F (part_values lies []), part_x lies [], part_r lies [], part_p lies [])
 
-  solve-image : Shaped c (state (solving c s.field) s.trail) → written plan here (solve_step plan W F (stand_of p s)) ≡ image_of c (state (solving c s.field) s.trail) (suc p) m floats path
+  solve_image : Shaped c (state (solving c s.field) s.trail) → written plan here (solve_step plan W F (stand_of p s)) ≡ image_of c (state (solving c s.field) s.trail) (suc p) m floats path
   unfolding solving
-  solve-image h' = ap (λ (d : Stepped). written plan here d) solve-step ∙ solved-image (Solver.pass element.flat (matrix_of c) c.tolerance s.field.solve) h'
+  solve_image h' = ap (λ (d : Stepped). written plan here d) solve_step_lem ∙ solved-image (Solver.pass element.flat (matrix_of c) c.tolerance s.field.solve) h'
 
   -- ---- the path
 
@@ -154,9 +154,9 @@ module _ (c : Task) (z : Sized c) (s : State) (h : Shaped c s) (p : ℕ) (m : Op
   abbrev filled : List Point → List Float
   filled ps = padded (point_floats * c.room) plus_zero (coordinates_of ps)
 
-  path-more : (new : List Point) (at : ℕ) → point_floats * length s.trail.path ≡ at → length (s.trail.path ++ new) ≤ c.room
+  path_more : (new : List Point) (at : ℕ) → point_floats * length s.trail.path ≡ at → length (s.trail.path ++ new) ≤ c.room
       → splice (filled s.trail.path ++ path) at (coordinates_of new) ≡ filled (s.trail.path ++ new) ++ path
-  path-more new at e k =
+  path_more new at e k =
       let a : length (s.trail.path ++ new) ≡ length s.trail.path + length new = length-append s.trail.path new in
       let f : length (coordinates_of s.trail.path) ≡ point_floats * length s.trail.path = length_coordinates s.trail.path in
       let g : length (coordinates_of new) ≡ point_floats * length new = length_coordinates new in
@@ -174,8 +174,8 @@ module _ (c : Task) (z : Sized c) (s : State) (h : Shaped c s) (p : ℕ) (m : Op
   abbrev gs : List Float
   gs = gradients element.flat c.vertices s.field.solve.x c.triangles
 
-  gs-long : length gs ≡ 2 * t
-  gs-long = gradients-length c.vertices s.field.solve.x c.triangles
+  gs_long : length gs ≡ 2 * t
+  gs_long = gradients-length c.vertices s.field.solve.x c.triangles
 
   abbrev G : List Float
   G = flat (fronts c s.field.solve.x s.field.solve.r s.field.solve.p gs [])
@@ -185,25 +185,25 @@ module _ (c : Task) (z : Sized c) (s : State) (h : Shaped c s) (p : ℕ) (m : Op
   unfolding set_out_step floats_of path_of
   set-image otherwise (Start.At q i e) k h' =
       let fits : 1 ≤ c.room = z.room in
-      let more : splice (filled s.trail.path ++ path) 0 (coordinates_of (q ∷ [])) ≡ filled (s.trail.path ++ (q ∷ [])) ++ path = path-more (q ∷ []) 0 (ap (λ (l : List Point). point_floats * length l) k) (rw k fits) in
-      work_is (plain (laid-gradients lies gs-long) G refl) (more ∙ ap (λ (y : List Point). filled (y ++ (q ∷ [])) ++ path) k) (rw (add-one p))
+      let more : splice (filled s.trail.path ++ path) 0 (coordinates_of (q ∷ [])) ≡ filled (s.trail.path ++ (q ∷ [])) ++ path = path_more (q ∷ []) 0 (ap (λ (l : List Point). point_floats * length l) k) (rw k fits) in
+      work_is (plain (laid_gradients lies gs_long) G refl) (more ∙ ap (λ (y : List Point). filled (y ++ (q ∷ [])) ++ path) k) (rw (add-one p))
   set-image otherwise Start.Nothing k h' =
-      work_is (plain (laid-gradients lies gs-long) G refl) (ap (λ (y : List Point). filled y ++ path) k) (rw (add-one p))
+      work_is (plain (laid_gradients lies gs_long) G refl) (ap (λ (y : List Point). filled y ++ path) k) (rw (add-one p))
 
   start-image : (g : Option Point) → s.trail.path ≡ [] → Shaped c (state s.field (start_from g c s.field.solve.x gs))
       → written plan here (start_by plan W F (stand_of p s) (given_of g)) ≡ image_of c (state s.field (start_from g c s.field.solve.x gs)) (suc p) m floats path
   unfolding start_from
   start-image (some q) k h' =
-      rw (part-vertices lies [], part-x lies [], words-triangles c z words, put-gradients lies [] gs gs-long)
+      rw (part_vertices lies [], part_x lies [], words_triangles c z words, put_gradients lies [] gs gs_long)
       (set-image 8 (triangle_containing c.vertices c.triangles t q) k h')
   start-image none k h' =
-      rw (part-vertices lies [], part-x lies [], words-triangles c z words, words-neighbours c z words, words-tags c z words, put-gradients lies [] gs gs-long)
+      rw (part_vertices lies [], part_x lies [], words_triangles c z words, words_neighbours c z words, words_tags c z words, put_gradients lies [] gs gs_long)
       (set-image 9 (pick_start c.vertices c.triangles c.neighbours c.tags t s.field.solve.x) k h')
 
-  begin-image : s.trail.walk.points ≡ 0 → Shaped c (state s.field (starting c s.field.solve.x))
+  begin_image : s.trail.walk.points ≡ 0 → Shaped c (state s.field (starting c s.field.solve.x))
       → written plan here (begin_step plan W F (stand_of p s)) ≡ image_of c (state s.field (starting c s.field.solve.x)) (suc p) m floats path
   unfolding begin_step starting
-  begin-image e h' = start-image c.start (nothing s.trail.path (omega (arith, h.path))) h'
+  begin_image e h' = start-image c.start (nothing s.trail.path (omega (arith, h.path))) h'
 
   -- ---- a crossing
 
@@ -217,13 +217,13 @@ module _ (c : Task) (z : Sized c) (s : State) (h : Shaped c s) (p : ℕ) (m : Op
   crossed-image x h' =
       let new = added c.room s.trail.walk x in
       let long : length (s.trail.path ++ new) ≤ c.room = omega (arith, h'.path, h'.room) in
-      work_is (plain lies F refl) (path-more new (point_floats * s.trail.walk.points) (ap (λ (k : ℕ). point_floats * k) h.path) long) (rw (add-one p))
+      work_is (plain lies F refl) (path_more new (point_floats * s.trail.walk.points) (ap (λ (k : ℕ). point_floats * k) h.path) long) (rw (add-one p))
 
-  cross-image : Shaped c (state s.field (crossing_pass c s.field.solve.x s.trail))
+  cross_image : Shaped c (state s.field (crossing_pass c s.field.solve.x s.trail))
       → written plan here (cross_step plan W F (stand_of p s)) ≡ image_of c (state s.field (crossing_pass c s.field.solve.x s.trail)) (suc p) m floats path
   unfolding cross_step crossing_pass
-  cross-image h' =
-      rw (part-vertices lies [], part-x lies [], part-gradients lies [], words-triangles c z words, words-neighbours c z words)
+  cross_image h' =
+      rw (part_vertices lies [], part_x lies [], part_gradients lies [], words_triangles c z words, words_neighbours c z words)
       (crossed-image (crossing rule c.vertices c.triangles c.neighbours t s.field.solve.x s.trail.gradients c.step s.trail.walk.position s.trail.walk.triangle s.trail.walk.edge) h')
 
   -- ---- any pass
@@ -232,14 +232,14 @@ module _ (c : Task) (z : Sized c) (s : State) (h : Shaped c s) (p : ℕ) (m : Op
       → written plan here (step_by plan W F (stand_of p s) (next_by e f g)) ≡ image_of c (pass_by (next_by e f g) c s) (suc p) m floats path
   unfolding pass_by
   pass-image false f g y k h' = absurd (false≢true y)
-  pass-image true true g y k h' = solve-image h'
-  pass-image true false true y k h' = begin-image (k refl) h'
-  pass-image true false false y k h' = cross-image h'
+  pass-image true true g y k h' = solve_image h'
+  pass-image true false true y k h' = begin_image (k refl) h'
+  pass-image true false false y k h' = cross_image h'
 
   pub once-state : finished s ≡ false → Shaped c (pass c s) → once plan W here ≡ image_of c (pass c s) (suc p) m floats path
   unfolding step_on next_of pass next_in
   once-state y h' =
-      once-written plan W here ∙ ap (λ (f : List Float). written plan here (step_on plan W f (stand_of p s))) front-is
+      once-written plan W here ∙ ap (λ (f : List Float). written plan here (step_on plan W f (stand_of p s))) front_is
       ∙ pass-image (eqb s.trail.walk.end 0) (eqb s.field.end 0) (eqb s.trail.walk.points 0) (not-false (eqb s.trail.walk.end 0) y) (eqb-true s.trail.walk.points 0) h'
 
 -- ---- at a place

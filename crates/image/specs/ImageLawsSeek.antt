@@ -12,16 +12,16 @@ use Rattle.model.specs.Task.{Task, triangle_count}
 use Rattle.model.specs.Run.{State, Field, Trail, state, no_trail, at, last_place}
 use Rattle.model.specs.Sized.{Sized}
 use Rattle.model.specs.SolvedPlace.{solved_place}
-use Rattle.model.specs.RunLaws.{unsolved_trail, solved_at_lem, gradients_stay, solved-le, solved-field, solved-trail, norms_grow}
+use Rattle.model.specs.RunLaws.{unsolved_trail, solved_at_lem, gradients_stay, solved-le, solved_field, solved_trail, norms_grow}
 use Rattle.work.specs.declared.Origin.{Origin}
 use Rattle.work.specs.Memory.{Work, once, goes, from_mark, origin_of, to_started, to_solved, to_kept, to_zero, from_origin, seek}
-use Rattle.work.specs.StartedLaws.{started-stand, started-path}
+use Rattle.work.specs.StartedLaws.{started_stand, started_path}
 use Rattle.image.specs.CallLaws.{and_true}
 use Rattle.image.specs.Image.{plan_of, kept_at, mark_of, floats_of, words_of}
 use Rattle.image.specs.ImageLawsLengths.{shaped_at}
 use Rattle.image.specs.ImageLawsPass.{image_of, image_work, work_is}
 use Rattle.image.specs.ImageLawsGoes.{goes-image}
-use Rattle.image.specs.ImageLawsOrigin.{to-solved, to-zero, to-kept}
+use Rattle.image.specs.ImageLawsOrigin.{to_solved_lem, to_zero_lem, to_kept_lem}
 
 -- a state by its field and its trail
 state_is : (s : State) (f : Field) (t : Trail) → s.field ≡ f → s.trail ≡ t → state f t ≡ s
@@ -50,7 +50,7 @@ unsolved_kept c p q target h k e = go (eqb (at c q).field.end 0) refl
     go false y =
         let n : (at c q).field.end ≢ 0 = eqb-false (at c q).field.end 0 y in
         let low : solved_place (at c q).field ≤ q = solved-le c q n in
-        let f : (at c p).field ≡ (at c q).field = solved-field c q n p (omega arith) in
+        let f : (at c p).field ≡ (at c q).field = solved_field c q n p (omega arith) in
         let n' : (at c p).field.end ≢ 0 = λ (x : (at c p).field.end ≡ 0). n (sym (ap (λ (g : Field). g.end) f) ∙ x) in
         let s : solved_place (at c p).field ≡ solved_place (at c q).field = ap solved_place f in
         absurd (false≢true (sym e ∙ solved_test_lem c p target n' (omega arith)))
@@ -74,26 +74,26 @@ module _ (c : Task) (z : Sized c) (floats : List Float) (words : List ℕ) (path
   -- ---- the origins
 
   -- the field's end, for a place past it
-  back-solved : (m : Option ℕ) → (at c p).field.end ≢ 0 → to_solved (plan_of c) (there m p) ≡ there m (solved_place (at c p).field)
-  back-solved m n =
+  back_solved : (m : Option ℕ) → (at c p).field.end ≢ 0 → to_solved (plan_of c) (there m p) ≡ there m (solved_place (at c p).field)
+  back_solved m n =
       let q = solved_place (at c p).field in
       let s : state (at c p).field (no_trail (triangle_count c)) ≡ at c q =
-      state_is (at c q) (at c p).field (no_trail (triangle_count c)) (solved-field c p n q (omega arith)) (solved-trail c p n) in
-      to-solved c z (at c p) (shaped_at c z p) p m floats words path ∙ ap (λ (x : State). image_of c x q m floats path) s
+      state_is (at c q) (at c p).field (no_trail (triangle_count c)) (solved_field c p n q (omega arith)) (solved_trail c p n) in
+      to_solved_lem c z (at c p) (shaped_at c z p) p m floats words path ∙ ap (λ (x : State). image_of c x q m floats path) s
 
   -- what the start pass from there leaves, but for the gradients, which have not changed
-  back-started : (m : Option ℕ) → (at c p).field.end ≢ 0 → solved_place (at c p).field < p → to_started (plan_of c) (words_of c words) (there m p) ≡ there m (suc (solved_place (at c p).field))
+  back_started : (m : Option ℕ) → (at c p).field.end ≢ 0 → solved_place (at c p).field < p → to_started (plan_of c) (words_of c words) (there m p) ≡ there m (suc (solved_place (at c p).field))
   unfolding to_started goes
-  back-started m n h =
+  back_started m n h =
       let q = solved_place (at c p).field in
       let w = there m p in
       let e : min (q + 1) E ≡ suc q = omega arith in
       let o : once (plan_of c) (words_of c words) (to_solved (plan_of c) w) ≡ there m (suc q) =
-      ap (once (plan_of c) (words_of c words)) (back-solved m n) ∙ goes-image c z m floats words path 1 q (omega arith) ∙ ap (there m) e in
+      ap (once (plan_of c) (words_of c words)) (back_solved m n) ∙ goes-image c z m floats words path 1 q (omega arith) ∙ ap (there m) e in
       work_is
-      (same_floats c m floats (at c p) (at c (suc q)) (sym (solved-field c p n (suc q) (omega arith))) (gradients_stay c q (at c p).field (solved_at_lem c p n).1 p (omega arith)))
-      (started-path (plan_of c) (words_of c words) w n ∙ ap (λ (x : Work). x.path) o)
-      (started-stand (plan_of c) (words_of c words) w n ∙ ap (λ (x : Work). x.stand) o)
+      (same_floats c m floats (at c p) (at c (suc q)) (sym (solved_field c p n (suc q) (omega arith))) (gradients_stay c q (at c p).field (solved_at_lem c p n).1 p (omega arith)))
+      (started_path (plan_of c) (words_of c words) w n ∙ ap (λ (x : Work). x.path) o)
+      (started_stand (plan_of c) (words_of c words) w n ∙ ap (λ (x : Work). x.stand) o)
 
   from-ended : (m : Option ℕ) (b : Bool) → ltb (solved_place (at c p).field) target ≡ b → target < p → solved_test c p target ≡ true
       → onward (from_origin (plan_of c) (words_of c words) (pick b Origin.Started Origin.Solved) (there m p)) ≡ there m (min target E)
@@ -111,43 +111,43 @@ module _ (c : Task) (z : Sized c) (floats : List Float) (words : List ℕ) (path
       go : (a : Bool) → ltb q target ≡ a → onward (from_origin (plan_of c) (words_of c words) (pick a Origin.Started Origin.Solved) (there m p)) ≡ there m (min target E)
       go true x =
           let k : q < target = ltb-true q target x in
-          arrived m (to_started (plan_of c) (words_of c words) (there m p)) (suc q) (back-started m n (omega arith)) (omega arith) (omega arith)
+          arrived m (to_started (plan_of c) (words_of c words) (there m p)) (suc q) (back_started m n (omega arith)) (omega arith) (omega arith)
       go false x =
           let low : q ≤ p = solved-le c p n in
-          arrived m (to_solved (plan_of c) (there m p)) q (back-solved m n) (omega arith) (leb-true q target tests.1)
+          arrived m (to_solved (plan_of c) (there m p)) q (back_solved m n) (omega arith) (leb-true q target tests.1)
 
   from_zero : (m : Option ℕ) → onward (to_zero (plan_of c) (words_of c words) (there m p)) ≡ there m (min target E)
   unfolding at
-  from_zero m = arrived m (to_zero (plan_of c) (words_of c words) (there m p)) 0 (to-zero c z (at c p) (shaped_at c z p) p m floats words path) (omega arith) (omega arith)
+  from_zero m = arrived m (to_zero (plan_of c) (words_of c words) (there m p)) 0 (to_zero_lem c z (at c p) (shaped_at c z p) p m floats words path) (omega arith) (omega arith)
 
-  from-kept : (q : ℕ) → target < p → q ≤ target → solved_test c p target ≡ false → onward (to_kept (plan_of c) (kept_at c q) (there (some q) p)) ≡ there (some q) (min target E)
-  from-kept q h k e =
+  from_kept : (q : ℕ) → target < p → q ≤ target → solved_test c p target ≡ false → onward (to_kept (plan_of c) (kept_at c q) (there (some q) p)) ≡ there (some q) (min target E)
+  from_kept q h k e =
       let u : (at c q).field.end ≡ 0 = unsolved_kept c p q target (omega arith) k e in
       let s : state (at c q).field (no_trail (triangle_count c)) ≡ at c q =
       state_is (at c q) (at c q).field (no_trail (triangle_count c)) refl (unsolved_trail c q u) in
       arrived (some q) (to_kept (plan_of c) (kept_at c q) (there (some q) p)) q
-      (to-kept c z (at c p) (shaped_at c z p) p q floats path (norms_grow c q p (omega arith)) u ∙ ap (λ (x : State). image_of c x q (some q) floats path) s) (omega arith) k
+      (to_kept_lem c z (at c p) (shaped_at c z p) p q floats path (norms_grow c q p (omega arith)) u ∙ ap (λ (x : State). image_of c x q (some q) floats path) s) (omega arith) k
 
   -- ---- whichever it is
 
   abbrev by : Option ℕ → Origin → Work
   by m o = onward (from_origin (plan_of c) (words_of c words) o (there m p))
 
-  by-kept : (q : ℕ) (b : Bool) → target < p → solved_test c p target ≡ false → (leb q target && leb (length (at c q).field.norms) c.limit) ≡ b
+  by_kept : (q : ℕ) (b : Bool) → target < p → solved_test c p target ≡ false → (leb q target && leb (length (at c q).field.norms) c.limit) ≡ b
       → by (some q) (pick b (Origin.Kept (kept_at c q)) Origin.Zero) ≡ there (some q) (min target E)
-  by-kept q true h e y = from-kept q h (leb-true q target (and_true (leb q target) (leb (length (at c q).field.norms) c.limit) y).0) e
-  by-kept q false h e y = from_zero (some q)
+  by_kept q true h e y = from_kept q h (leb-true q target (and_true (leb q target) (leb (length (at c q).field.norms) c.limit) y).0) e
+  by_kept q false h e y = from_zero (some q)
 
-  by-mark : (m : Option ℕ) → target < p → solved_test c p target ≡ false → by m (from_mark c.limit (mark_of c m) target) ≡ there m (min target E)
-  by-mark none h e = from_zero none
-  by-mark (some q) h e = by-kept q (leb q target && leb (length (at c q).field.norms) c.limit) h e refl
+  by_mark : (m : Option ℕ) → target < p → solved_test c p target ≡ false → by m (from_mark c.limit (mark_of c m) target) ≡ there m (min target E)
+  by_mark none h e = from_zero none
+  by_mark (some q) h e = by_kept q (leb q target && leb (length (at c q).field.norms) c.limit) h e refl
 
-  by-any : (m : Option ℕ) (a b : Bool) → leb p target ≡ a → solved_test c p target ≡ b
+  by_any : (m : Option ℕ) (a b : Bool) → leb p target ≡ a → solved_test c p target ≡ b
       → by m (pick a Origin.Here (pick b (pick (ltb (solved_place (at c p).field) target) Origin.Started Origin.Solved) (from_mark c.limit (mark_of c m) target))) ≡ there m (min target E)
-  by-any m true b x y = arrived m (there m p) p refl within (leb-true p target x)
-  by-any m false true x y = from-ended m (ltb (solved_place (at c p).field) target) refl (leb-false p target x) y
-  by-any m false false x y = by-mark m (leb-false p target x) y
+  by_any m true b x y = arrived m (there m p) p refl within (leb-true p target x)
+  by_any m false true x y = from-ended m (ltb (solved_place (at c p).field) target) refl (leb-false p target x) y
+  by_any m false false x y = by_mark m (leb-false p target x) y
 
   pub seek-image : (m : Option ℕ) → seek (plan_of c) (words_of c words) (mark_of c m) target (there m p) ≡ there m (min target E)
   unfolding seek origin_of
-  seek-image m = by-any m (leb p target) (solved_test c p target) refl refl
+  seek-image m = by_any m (leb p target) (solved_test c p target) refl refl

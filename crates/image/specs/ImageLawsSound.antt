@@ -25,7 +25,7 @@ use Rattle.image.specs.Calls.{triangle_sound, stand_sound, mark_sound, all_none_
 use Rattle.image.specs.CallLaws.{and_true, both}
 use Rattle.image.specs.Image.{plan_of, stand_of, mark_of, words_of}
 use Rattle.image.specs.ImageLawsLengths.{few}
-use Rattle.image.specs.ImageLawsRead.{words-triangles, words-neighbours, words-starts, words-columns}
+use Rattle.image.specs.ImageLawsRead.{words_triangles, words_neighbours, words_starts, words_columns}
 
 -- ---- one number or below another
 
@@ -45,51 +45,51 @@ module _ (c : Task) (z : Sized c) where
   abbrev t : ℕ
   t = triangle_count c
 
-  norms-in : (p : ℕ) (b : Bool) → eqb (at c p).field.end 0 ≡ b → length (at c p).field.norms ≤ c.limit + pick b 0 1
-  norms-in p true e = omega (arith, norms_below c p (eqb-true (at c p).field.end 0 e))
-  norms-in p false e = norms_bound c p
+  norms_in_lem : (p : ℕ) (b : Bool) → eqb (at c p).field.end 0 ≡ b → length (at c p).field.norms ≤ c.limit + pick b 0 1
+  norms_in_lem p true e = omega (arith, norms_below c p (eqb-true (at c p).field.end 0 e))
+  norms_in_lem p false e = norms_bound c p
 
-  ended-or-left : (p : ℕ) (b : Bool) → (at c p).trail.walk.points ≢ 0 → eqb (at c p).trail.walk.end 0 ≡ b → (not b || ltb (at c p).trail.crossings (factor * t)) ≡ true
-  ended-or-left p true k e = lt-ltb (at c p).trail.crossings (factor * t) (crossings_left c p k (eqb-true (at c p).trail.walk.end 0 e))
-  ended-or-left p false k e = refl
+  ended_or_left : (p : ℕ) (b : Bool) → (at c p).trail.walk.points ≢ 0 → eqb (at c p).trail.walk.end 0 ≡ b → (not b || ltb (at c p).trail.crossings (factor * t)) ≡ true
+  ended_or_left p true k e = lt-ltb (at c p).trail.crossings (factor * t) (crossings_left c p k (eqb-true (at c p).trail.walk.end 0 e))
+  ended_or_left p false k e = refl
 
-  walk-sound : (p : ℕ) (b : Bool) → eqb (at c p).trail.walk.points 0 ≡ b
+  walk_sound : (p : ℕ) (b : Bool) → eqb (at c p).trail.walk.points 0 ≡ b
       → (b || (ltb (at c p).trail.walk.triangle t && (not (eqb (at c p).trail.walk.end 0) || ltb (at c p).trail.crossings (factor * t)))) ≡ true
-  walk-sound p true e = refl
-  walk-sound p false e =
+  walk_sound p true e = refl
+  walk_sound p false e =
       let k : (at c p).trail.walk.points ≢ 0 = eqb-false (at c p).trail.walk.points 0 e in
       both (ltb (at c p).trail.walk.triangle t) (not (eqb (at c p).trail.walk.end 0) || ltb (at c p).trail.crossings (factor * t))
-      (lt-ltb (at c p).trail.walk.triangle t (walk_triangle c z p (omega arith))) (ended-or-left p (eqb (at c p).trail.walk.end 0) k refl)
+      (lt-ltb (at c p).trail.walk.triangle t (walk_triangle c z p (omega arith))) (ended_or_left p (eqb (at c p).trail.walk.end 0) k refl)
 
-  triangle-sound : (p : ℕ) → triangle_sound t (at c p).trail.walk.triangle ≡ true
-  triangle-sound p = that_or_below 0 t (at c p).trail.walk.triangle (walk_zero_or_below c z p)
+  triangle_sound_lem : (p : ℕ) → triangle_sound t (at c p).trail.walk.triangle ≡ true
+  triangle_sound_lem p = that_or_below 0 t (at c p).trail.walk.triangle (walk_zero_or_below c z p)
 
-  pub stand-sound : (p : ℕ) → p ≤ last_place c → stand_sound (plan_of c) (stand_of p (at c p)) ≡ true
+  pub stand_sound_lem : (p : ℕ) → p ≤ last_place c → stand_sound (plan_of c) (stand_of p (at c p)) ≡ true
   unfolding stand_sound
-  stand-sound p h =
+  stand_sound_lem p h =
       let far : p ≤ farthest t c.limit = omega (arith, last_bound c) in
       rw (
         le-leb p (farthest t c.limit) far,
         le-leb 1 (length (at c p).field.norms) (norms_some c p),
-        le-leb (length (at c p).field.norms) (c.limit + pick (eqb (at c p).field.end 0) 0 1) (norms-in p (eqb (at c p).field.end 0) refl),
+        le-leb (length (at c p).field.norms) (c.limit + pick (eqb (at c p).field.end 0) 0 1) (norms_in_lem p (eqb (at c p).field.end 0) refl),
         le-leb (at c p).field.end 3 (field_end_bound c p),
         le-leb (at c p).trail.walk.end 9 (path_end_bound c p),
         le-leb (at c p).trail.walk.edge 3 (walk_edge c z p),
-        triangle-sound p,
+        triangle_sound_lem p,
         le-leb (at c p).trail.walk.points c.room (points_bound c z.room p),
         le-leb (at c p).trail.crossings (factor * t) (crossings_bound c p),
       )
-      (walk-sound p (eqb (at c p).trail.walk.points 0) refl)
+      (walk_sound p (eqb (at c p).trail.walk.points 0) refl)
 
   -- a mark at a place of the run
   abbrev pub MarkIn : Option ℕ → Type 0
   MarkIn none = Unit {0}
   MarkIn (some q) = q ≤ last_place c
 
-  pub mark-sound : (m : Option ℕ) → MarkIn m → mark_sound (plan_of c) (mark_of c m) ≡ true
+  pub mark_sound_lem : (m : Option ℕ) → MarkIn m → mark_sound (plan_of c) (mark_of c m) ≡ true
   unfolding mark_sound
-  mark-sound none h = refl
-  mark-sound (some q) h =
+  mark_sound_lem none h = refl
+  mark_sound_lem (some q) h =
       let far : q ≤ farthest t c.limit = omega (arith, last_bound c) in
       rw (le-leb q (farthest t c.limit) far, le-leb 1 (length (at c q).field.norms) (norms_some c q)) (le-leb (length (at c q).field.norms) (c.limit + 1) (norms_bound c q))
 
@@ -160,12 +160,12 @@ zeros_below n (suc k) h = let e : 0 < n = h (omega arith) in both (ltb 0 n) (all
 -- ---- the words of an image
 
 module _ (c : Task) (h : Sized c) (rest : List ℕ) where
-  corners-below : (all_below (vertex_count c) c.triangles ≡ true) × AllBelow (vertex_count c) c.triangles
-  corners-below = below_each (vertex_count c) c.triangles h.corners
+  corners_below : (all_below (vertex_count c) c.triangles ≡ true) × AllBelow (vertex_count c) c.triangles
+  corners_below = below_each (vertex_count c) c.triangles h.corners
 
   -- a sheet with triangles has vertices
-  some-vertex : (k : ℕ) → 9 * triangle_count c + vertex_count c - k ≢ 0 → 0 < vertex_count c
-  some-vertex k e = go (vertex_count c) refl
+  some_vertex : (k : ℕ) → 9 * triangle_count c + vertex_count c - k ≢ 0 → 0 < vertex_count c
+  some_vertex k e = go (vertex_count c) refl
     where
       go : (n : ℕ) → vertex_count c ≡ n → 0 < n
       go (suc n) y = omega arith
@@ -177,17 +177,17 @@ module _ (c : Task) (h : Sized c) (rest : List ℕ) where
           none_left zero q = e (omega arith)
           none_left (suc t) q = let b : get_or c.triangles 0 0 < vertex_count c = h.corners 0 (omega (arith, h.triangles)) in omega arith
 
-  columns-sound : all_below (vertex_count c) (padded (9 * triangle_count c + vertex_count c) 0 (columns_of (matrix_of c))) ≡ true
+  columns_sound : all_below (vertex_count c) (padded (9 * triangle_count c + vertex_count c) 0 (columns_of (matrix_of c))) ≡ true
   unfolding padded matrix_of
-  columns-sound =
+  columns_sound =
       below_append (vertex_count c) (columns_of (matrix_of c)) (replicate (9 * triangle_count c + vertex_count c - length (columns_of (matrix_of c))) 0)
-      (columns_below (vertex_count c) c.tags (pushes element.flat c.vertices c.triangles) (vertex_count c) (omega arith) (pushes_below (vertex_count c) element.flat c.vertices c.triangles corners-below.1))
-      (zeros_below (vertex_count c) (9 * triangle_count c + vertex_count c - length (columns_of (matrix_of c))) (some-vertex (length (columns_of (matrix_of c)))))
+      (columns_below (vertex_count c) c.tags (pushes element.flat c.vertices c.triangles) (vertex_count c) (omega arith) (pushes_below (vertex_count c) element.flat c.vertices c.triangles corners_below.1))
+      (zeros_below (vertex_count c) (9 * triangle_count c + vertex_count c - length (columns_of (matrix_of c))) (some_vertex (length (columns_of (matrix_of c)))))
 
-  pub words-sound : words_sound (plan_of c) (words_of c rest) ≡ true
+  pub words_sound_lem : words_sound (plan_of c) (words_of c rest) ≡ true
   unfolding words_sound
-  words-sound =
+  words_sound_lem =
       let n = vertex_count c in
       let t = triangle_count c in
-      rw (words-triangles c h rest, words-neighbours c h rest, words-starts c h rest, words-columns c h rest, corners-below.0, none_each t c.neighbours h.in_range, starts_sound (9 * t + n) (matrix_of c) (few c h))
-      columns-sound
+      rw (words_triangles c h rest, words_neighbours c h rest, words_starts c h rest, words_columns c h rest, corners_below.0, none_each t c.neighbours h.in_range, starts_sound (9 * t + n) (matrix_of c) (few c h))
+      columns_sound

@@ -9,32 +9,32 @@ use Rattle.laplace.specs.Placed.{padded}
 use Rattle.work.specs.Layout.{at_x, at_r, at_p, at_norms}
 use Rattle.work.specs.Memory.{cleared}
 use Rattle.image.specs.ImageLawsPadded.{length-padded, padded-more}
-use Rattle.image.specs.ImageLawsSegments.{zeros, Laid, segments, laid-x, laid-r, joined-segs, put-x, put-r, put-p, put-product, put-norms}
+use Rattle.image.specs.ImageLawsSegments.{zeros, Laid, segments, laid_x, laid_r, joined_segs, put_x, put_r, put_p, put_product, put_norms}
 
 module _ {n t : ℕ} {v b w a x r p g : List Float} (l : Laid n t v b w a x r p (zeros n) g) where
   -- the product is clear already
-  pub clear-segs : (back : List (List Float)) → cleared n t (flat (segments v b w a x r p (zeros n) g back)) ≡ flat (segments v b w a x r p (zeros n) g back)
-  clear-segs back = put-product l back (zeros n) (length-replicate n plus_zero)
+  pub clear_segs : (back : List (List Float)) → cleared n t (flat (segments v b w a x r p (zeros n) g back)) ≡ flat (segments v b w a x r p (zeros n) g back)
+  clear_segs back = put_product l back (zeros n) (length-replicate n plus_zero)
 
   -- x and r moved
-  pub reached-segs : (back : List (List Float)) (x' r' : List Float) → length x' ≡ n → length r' ≡ n
+  pub reached_segs : (back : List (List Float)) (x' r' : List Float) → length x' ≡ n → length r' ≡ n
       → cleared n t (splice (splice (flat (segments v b w a x r p (zeros n) g back)) (at_x n t) x') (at_r n t) r') ≡ flat (segments v b w a x' r' p (zeros n) g back)
-  reached-segs back x' r' ex er =
-      let lx : Laid n t v b w a x' r p (zeros n) g = laid-x l ex in
-      let lr : Laid n t v b w a x' r' p (zeros n) g = laid-r lx er in
-      rw (put-x l back x' ex, put-r lx back r' er) (put-product lr back (zeros n) (length-replicate n plus_zero))
+  reached_segs back x' r' ex er =
+      let lx : Laid n t v b w a x' r p (zeros n) g = laid_x l ex in
+      let lr : Laid n t v b w a x' r' p (zeros n) g = laid_r lx er in
+      rw (put_x l back x' ex, put_r lx back r' er) (put_product lr back (zeros n) (length-replicate n plus_zero))
 
   -- p moved too
-  pub moved-segs : (back : List (List Float)) (x' r' p' : List Float) → length x' ≡ n → length r' ≡ n → length p' ≡ n
+  pub moved_segs : (back : List (List Float)) (x' r' p' : List Float) → length x' ≡ n → length r' ≡ n → length p' ≡ n
       → splice (cleared n t (splice (splice (flat (segments v b w a x r p (zeros n) g back)) (at_x n t) x') (at_r n t) r')) (at_p n t) p' ≡ flat (segments v b w a x' r' p' (zeros n) g back)
-  moved-segs back x' r' p' ex er ep =
-      let lr : Laid n t v b w a x' r' p (zeros n) g = laid-r (laid-x l ex) er in
-      rw (reached-segs back x' r' ex er) (put-p lr back p' ep)
+  moved_segs back x' r' p' ex er ep =
+      let lr : Laid n t v b w a x' r' p (zeros n) g = laid_r (laid_x l ex) er in
+      rw (reached_segs back x' r' ex er) (put_p lr back p' ep)
 
   -- a norm behind the norms
-  pub norm-segs : (m : ℕ) (ns rest : List Float) (e : Float) → length ns + 1 ≤ m
+  pub norm_segs : (m : ℕ) (ns rest : List Float) (e : Float) → length ns + 1 ≤ m
       → splice (flat (segments v b w a x r p (zeros n) g []) ++ flat (padded m plus_zero ns ∷ rest ∷ [])) (at_norms n t + length ns) (e ∷ [])
       ≡ flat (segments v b w a x r p (zeros n) g (padded m plus_zero (ns ++ (e ∷ [])) ∷ rest ∷ []))
-  norm-segs m ns rest e h =
+  norm_segs m ns rest e h =
       let k : length (padded m plus_zero ns) ≡ m = length-padded m plus_zero ns (omega arith) in
-      rw (joined-segs l (padded m plus_zero ns ∷ rest ∷ []), put-norms l (padded m plus_zero ns) rest (length ns) (e ∷ []) (omega arith), padded-more m plus_zero ns (e ∷ []) (length ns) refl h)
+      rw (joined_segs l (padded m plus_zero ns ∷ rest ∷ []), put_norms l (padded m plus_zero ns) rest (length ns) (e ∷ []) (omega arith), padded-more m plus_zero ns (e ∷ []) (length ns) refl h)

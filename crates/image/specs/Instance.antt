@@ -9,7 +9,7 @@ use Rattle.model.specs.SizeLaws.{right_length}
 use Rattle.model.specs.RunLaws.{last_bound, vectors_sized, gradients_sized, norms_bound, points_bound}
 use Rattle.image.specs.ImageFacts.{MarkIn, Facts, Parts}
 use Rattle.image.specs.ImageLawsGoes as Goes
-use Rattle.image.specs.ImageLawsLengths.{shaped_at, few, length-floats, length_words, length-points, length-path}
+use Rattle.image.specs.ImageLawsLengths.{shaped_at, few, length_floats, length_words, length_points, length_path}
 use Rattle.image.specs.ImageLawsMatrix.{length_values}
 use Rattle.image.specs.ImageLawsRead.{matrix-image}
 use Rattle.image.specs.ImageLawsSeek as Seek
@@ -25,24 +25,24 @@ module _ (c : Task) (z : Sized c) where
     seek-image = λ p target m floats words path h k. Seek.seek-image c z floats words path p target h m;
     mark_image = λ p m floats h k. Goes.mark_image c z p m floats;
     last_bound = last_bound c;
-    stand-sound = λ p h. Sound.stand-sound c z p h;
-    mark-sound = λ m h. Sound.mark-sound c z m (marked m h);
-    words-sound = λ words. Sound.words-sound c z words;
-    floats-long = λ p m floats h k. length-floats c z (at c p) (shaped_at c z p) m floats;
+    stand_sound_lem = λ p h. Sound.stand_sound_lem c z p h;
+    mark_sound_lem = λ m h. Sound.mark_sound_lem c z m (marked m h);
+    words_sound_lem = λ words. Sound.words_sound_lem c z words;
+    floats_long = λ p m floats h k. length_floats c z (at c p) (shaped_at c z p) m floats;
     words_long = λ words. length_words c z words;
-    path-long = λ p path h. length-path c z (at c p) (shaped_at c z p) path;
+    path_long = λ p path h. length_path c z (at c p) (shaped_at c z p) path;
   }
 
   pub parts : Parts c
   parts = record {
     read_back = λ p m floats words h k. matrix-image c z (at c p) (shaped_at c z p) m floats words;
-    right-long = right_length c;
-    values-long = omega (arith, few c z, length_values (matrix_of c));
-    x-long = λ p h. (vectors_sized c p).x;
-    r-long = λ p h. (vectors_sized c p).r;
-    p-long = λ p h. (vectors_sized c p).p;
-    gradients-long = λ p h. gradients_sized c p;
-    norms-long = λ p h. norms_bound c p;
-    path-counted = λ p h. length-points c z (at c p) (shaped_at c z p);
-    points-in = λ p h. points_bound c z.room p;
+    right_long = right_length c;
+    values_long = omega (arith, few c z, length_values (matrix_of c));
+    x_long = λ p h. (vectors_sized c p).x;
+    r_long = λ p h. (vectors_sized c p).r;
+    p_long = λ p h. (vectors_sized c p).p;
+    gradients_long = λ p h. gradients_sized c p;
+    norms_long = λ p h. norms_bound c p;
+    path_counted = λ p h. length_points c z (at c p) (shaped_at c z p);
+    points_in_lem = λ p h. points_bound c z.room p;
   }

@@ -18,7 +18,7 @@ use Rattle.model.specs.Machine.{Call, advance, back, mark, return, Space, Counte
 use Rattle.work.specs.declared.Run.{Run}
 use Rattle.work.specs.Memory.{Work, work}
 use Rattle.image.specs.Calls.{Buffers, buffers, held_fault, gone, sought_at, mark_place, late_fault, fault, next_run, run_after, buffers_after}
-use Rattle.image.specs.CallLaws.{Counted, Enough, lacking, lacking_none, held-short, held-fine, refused-unchanged}
+use Rattle.image.specs.CallLaws.{Counted, Enough, lacking, lacking_none, held-short, held_fine, refused_unchanged}
 use Rattle.image.specs.Image.{plan_of, stand_of, mark_of, run_of, floats_of, words_of, path_of, Rest, image, floats_used, words_used}
 use Rattle.image.specs.ImageFacts.{MarkIn, work_at, Facts}
 use Rattle.image.specs.Lists.{Held, front, behind, performed, performs}
@@ -56,14 +56,14 @@ rejoined {A} f g u h h' rest k e =
 -- the machine stands within the run
 pub record Within (last : ℕ) (s : Counter) : Type 0 where
   pub place_in : s.place ≤ last
-  pub mark-in : MarkIn s.mark last
+  pub mark_in : MarkIn s.mark last
 
 pub fresh-within : (last : ℕ) → Within last fresh
-fresh-within last = record { place_in = omega arith; mark-in = tt }
+fresh-within last = record { place_in = omega arith; mark_in = tt }
 
 -- a task's counts are in range
 pub counted : (c : Task) → Sized c → Counted (plan_of c)
-counted c good = record { vertices = good.vertices-most; triangles = good.triangles-most; limit = good.limit-most; least = good.room; room = good.room_most }
+counted c good = record { vertices = good.vertices_most; triangles = good.triangles_most; limit = good.limit-most; least = good.room; room = good.room_most }
 
 -- ---- the buffers of an image
 
@@ -95,23 +95,23 @@ abbrev work_on : Task → Counter → Rest → Work
 work_on c s rest = work_at c s.place s.mark rest.floats rest.path
 
 module _ (c : Task) (facts : Facts c) where
-  floats-lead : (s : Counter) → Within (last_place c) s → Leads (λ r. floats_of c (at c s.place) s.mark r) (floats_used c)
-  floats-lead s w = record {
+  floats_lead : (s : Counter) → Within (last_place c) s → Leads (λ r. floats_of c (at c s.place) s.mark r) (floats_used c)
+  floats_lead s w = record {
     head = floats_of c (at c s.place) s.mark [];
     split = λ r. floats_split c (at c s.place) s.mark r;
-    long = facts.floats-long s.place s.mark [] w.place_in w.mark-in ∙ omega arith;
+    long = facts.floats_long s.place s.mark [] w.place_in w.mark-in ∙ omega arith;
   }
 
-  words-lead : Leads (λ r. words_of c r) (words_used c)
-  words-lead = record { head = words_of c []; split = λ r. words_split c r; long = facts.words_long [] ∙ omega arith }
+  words_lead : Leads (λ r. words_of c r) (words_used c)
+  words_lead = record { head = words_of c []; split = λ r. words_split c r; long = facts.words_long [] ∙ omega arith }
 
-  path-lead : (s : Counter) → Within (last_place c) s → Leads (λ r. path_of c (at c s.place) r) (point_floats * c.room)
-  path-lead s w = record { head = path_of c (at c s.place) []; split = λ r. path_split c (at c s.place) r; long = facts.path-long s.place [] w.place_in ∙ omega arith }
+  path_lead : (s : Counter) → Within (last_place c) s → Leads (λ r. path_of c (at c s.place) r) (point_floats * c.room)
+  path_lead s w = record { head = path_of c (at c s.place) []; split = λ r. path_split c (at c s.place) r; long = facts.path_long s.place [] w.place_in ∙ omega arith }
 
-  pub lengths-image : (s : Counter) (rest : Rest) → Within (last_place c) s → lengths_of (image c s rest) ≡ sizes c rest
+  pub lengths_image : (s : Counter) (rest : Rest) → Within (last_place c) s → lengths_of (image c s rest) ≡ sizes c rest
   unfolding image
-  lengths-image s rest w =
-      rw (facts.floats-long s.place s.mark rest.floats w.place_in w.mark-in, facts.words_long rest.words, facts.path-long s.place rest.path w.place_in)
+  lengths_image s rest w =
+      rw (facts.floats_long s.place s.mark rest.floats w.place_in w.mark-in, facts.words_long rest.words, facts.path_long s.place rest.path w.place_in)
 
   -- a front that is long enough is an image too
   pub front-image : (s : Counter) (rest : Rest) (lent : Space) → Within (last_place c) s → Enough (needs c) lent → front lent (image c s rest) ≡ image c s (lent_rest c lent rest)
@@ -120,7 +120,7 @@ module _ (c : Task) (facts : Facts c) where
       let f : _ = h.floats in
       let g : _ = h.words in
       let k : _ = h.path in
-      rw (take-front _ (floats_used c) (floats-lead s w) rest.floats lent.floats (omega arith), take-front _ (words_used c) words-lead rest.words lent.words (omega arith), take-front _ (point_floats * c.room) (path-lead s w) rest.path lent.path (omega arith))
+      rw (take-front _ (floats_used c) (floats_lead s w) rest.floats lent.floats (omega arith), take-front _ (words_used c) words_lead rest.words lent.words (omega arith), take-front _ (point_floats * c.room) (path_lead s w) rest.path lent.path (omega arith))
 
   -- and one image in place of another's front is that image whole
   behind-image : (s s' : Counter) (rest : Rest) (lent : Space) → Within (last_place c) s → Within (last_place c) s' → Enough (needs c) lent
@@ -130,18 +130,18 @@ module _ (c : Task) (facts : Facts c) where
       let f : _ = h.floats in
       let g : _ = h.words in
       let k : _ = h.path in
-      rw (rejoined _ _ (floats_used c) (floats-lead s w) (floats-lead s' w') rest.floats lent.floats (omega arith), rejoined _ _ (words_used c) words-lead words-lead rest.words lent.words (omega arith), rejoined _ _ (point_floats * c.room) (path-lead s w) (path-lead s' w') rest.path lent.path (omega arith))
+      rw (rejoined _ _ (floats_used c) (floats_lead s w) (floats_lead s' w') rest.floats lent.floats (omega arith), rejoined _ _ (words_used c) words_lead words_lead rest.words lent.words (omega arith), rejoined _ _ (point_floats * c.room) (path_lead s w) (path_lead s' w') rest.path lent.path (omega arith))
 
   -- ---- where a call leads from an image
 
-  mark-place : (m : Option ℕ) (p : ℕ) → p ≤ last_place c → MarkIn m (last_place c) → mark_or m p ≤ last_place c
-  mark-place none p h g = h
-  mark-place (some q) p h g = g
+  mark_place_lem : (m : Option ℕ) (p : ℕ) → p ≤ last_place c → MarkIn m (last_place c) → mark_or m p ≤ last_place c
+  mark_place_lem none p h g = h
+  mark_place_lem (some q) p h g = g
 
   -- the record's mark and the machine's
-  same-mark : (m : Option ℕ) (p : ℕ) → mark_place (mark_of c m) p ≡ mark_or m p
-  same-mark none p = refl
-  same-mark (some q) p = refl
+  same_mark : (m : Option ℕ) (p : ℕ) → mark_place (mark_of c m) p ≡ mark_or m p
+  same_mark none p = refl
+  same_mark (some q) p = refl
 
   sought : (s : Counter) (rest : Rest) (target q : ℕ) → Within (last_place c) s → min target (last_place c) ≡ q
       → sought_at (run_of c s) (image c s rest) target ≡ work_at c q s.mark rest.floats rest.path
@@ -158,29 +158,29 @@ module _ (c : Task) (facts : Facts c) where
   gone_at (back k) s rest w = let h : s.place ≤ last_place c = w.place_in in sought s rest (s.place - k) (s.place - k) w (omega arith)
   gone_at mark s rest w = ap (λ (l : List Float). work l (path_of c (at c s.place) rest.path) (stand_of s.place (at c s.place))) (facts.mark_image s.place s.mark rest.floats w.place_in w.mark-in)
   gone_at return s rest w =
-      let h : mark_or s.mark s.place ≤ last_place c = mark-place s.mark s.place w.place_in w.mark-in in
-      let e : mark_place (mark_of c s.mark) s.place ≡ mark_or s.mark s.place = same-mark s.mark s.place in
+      let h : mark_or s.mark s.place ≤ last_place c = mark_place_lem s.mark s.place w.place_in w.mark-in in
+      let e : mark_place (mark_of c s.mark) s.place ≡ mark_or s.mark s.place = same_mark s.mark s.place in
       sought s rest (mark_place (mark_of c s.mark) s.place) (mark_or s.mark s.place) w (omega arith)
 
   -- ---- a call that is lent enough: its refusal, record and buffers are those of the machine
 
-  return-late : (r : Run) (b : Buffers) (m : Option ℕ) → r.mark ≡ mark_of c m → late_fault return r b ≡ no_mark m
-  return-late r b none e = rw e
-  return-late r b (some q) e = rw e
+  return_late : (r : Run) (b : Buffers) (m : Option ℕ) → r.mark ≡ mark_of c m → late_fault return r b ≡ no_mark m
+  return_late r b none e = rw e
+  return_late r b (some q) e = rw e
 
   same-late : (call : Call) (s : Counter) (rest : Rest) → Within (last_place c) s → late_fault call (run_of c s) (image c s rest) ≡ late (last_place c) call s
   unfolding run_of
   same-late (advance k) s rest w = ap (λ (g : Work). pick (ltb most (s.passes + (g.stand.place - s.place))) 10 0) (gone_at (advance k) s rest w)
   same-late (back k) s rest w = refl
   same-late mark s rest w = refl
-  same-late return s rest w = return-late (run_of c s) (image c s rest) s.mark refl
+  same-late return s rest w = return_late (run_of c s) (image c s rest) s.mark refl
 
-  same-run : (call : Call) (s : Counter) (rest : Rest) → Within (last_place c) s → next_run call (run_of c s) (image c s rest) ≡ run_of c (moved (last_place c) call s)
+  same_run : (call : Call) (s : Counter) (rest : Rest) → Within (last_place c) s → next_run call (run_of c s) (image c s rest) ≡ run_of c (moved (last_place c) call s)
   unfolding next_run run_of
-  same-run (advance k) s rest w = rw (gone_at (advance k) s rest w)
-  same-run (back k) s rest w = rw (gone_at (back k) s rest w)
-  same-run mark s rest w = refl
-  same-run return s rest w = rw (gone_at return s rest w)
+  same_run (advance k) s rest w = rw (gone_at (advance k) s rest w)
+  same_run (back k) s rest w = rw (gone_at (back k) s rest w)
+  same_run mark s rest w = refl
+  same_run return s rest w = rw (gone_at return s rest w)
 
   same-buffers : (call : Call) (s : Counter) (rest : Rest) → Within (last_place c) s
       → buffers (gone call (run_of c s) (image c s rest)).floats (image c s rest).words (gone call (run_of c s) (image c s rest)).path ≡ image c (moved (last_place c) call s) rest
@@ -190,10 +190,10 @@ module _ (c : Task) (facts : Facts c) where
   -- ---- the machine stays within the run
 
   within-moved : (call : Call) (s : Counter) → Within (last_place c) s → Within (last_place c) (moved (last_place c) call s)
-  within-moved (advance k) s w = record { place_in = omega arith; mark-in = w.mark-in }
-  within-moved (back k) s w = let h : s.place ≤ last_place c = w.place_in in record { place_in = omega arith; mark-in = w.mark-in }
-  within-moved mark s w = record { place_in = w.place_in; mark-in = w.place_in }
-  within-moved return s w = record { place_in = mark-place s.mark s.place w.place_in w.mark-in; mark-in = w.mark-in }
+  within-moved (advance k) s w = record { place_in = omega arith; mark_in = w.mark-in }
+  within-moved (back k) s w = let h : s.place ≤ last_place c = w.place_in in record { place_in = omega arith; mark_in = w.mark-in }
+  within-moved mark s w = record { place_in = w.place_in; mark_in = w.place_in }
+  within-moved return s w = record { place_in = mark_place_lem s.mark s.place w.place_in w.mark-in; mark_in = w.mark-in }
 
   -- where a call is not refused, and where it is
   within-pick : (t : Bool) (call : Call) (s : Counter) → Within (last_place c) s → Within (last_place c) (pick t (moved (last_place c) call s) s)
@@ -233,30 +233,30 @@ held_of c s rest said = record { run = run_of c s; all = image c s rest; said = 
 
 module _ (c : Task) (good : Sized c) (facts : Facts c) where
   -- lent too little
-  called-short : (call : Call) (s : Counter) (rest : Rest) (lent : Space) → lacking (needs c) (lengths_of (front lent (image c s rest))) ≡ true → Called c call s rest lent s 8
+  called_short : (call : Call) (s : Counter) (rest : Rest) (lent : Space) → lacking (needs c) (lengths_of (front lent (image c s rest))) ≡ true → Called c call s rest lent s 8
   unfolding fault run_of needs
-  called-short call s rest lent e =
+  called_short call s rest lent e =
       let f : fault call (run_of c s) (front lent (image c s rest)) ≡ 8 = rw (held-short (run_of c s) (front lent (image c s rest)) (counted c good) e) in
-      let u : _ = refused-unchanged call (run_of c s) (front lent (image c s rest)) (λ z. omega arith) in
+      let u : _ = refused_unchanged call (run_of c s) (front lent (image c s rest)) (λ z. omega arith) in
       record { said = f; left = u.0; held = rw u.1 (whole lent (image c s rest)) }
 
   -- an image refuses nothing by itself
-  image-fine : (s : Counter) (rest : Rest) → Within (last_place c) s → lacking (needs c) (lengths_of (image c s rest)) ≡ false → held_fault (run_of c s) (image c s rest) ≡ 0
+  image_fine : (s : Counter) (rest : Rest) → Within (last_place c) s → lacking (needs c) (lengths_of (image c s rest)) ≡ false → held_fault (run_of c s) (image c s rest) ≡ 0
   unfolding run_of image needs
-  image-fine s rest w e =
-      held-fine (run_of c s) (image c s rest) (counted c good) e (facts.stand-sound s.place w.place_in) (facts.mark-sound s.mark w.mark-in) (facts.words-sound rest.words)
+  image_fine s rest w e =
+      held_fine (run_of c s) (image c s rest) (counted c good) e (facts.stand_sound_lem s.place w.place_in) (facts.mark_sound_lem s.mark w.mark-in) (facts.words_sound_lem rest.words)
 
   image-fault : (call : Call) (s : Counter) (rest : Rest) → Within (last_place c) s → held_fault (run_of c s) (image c s rest) ≡ 0 → fault call (run_of c s) (image c s rest) ≡ late (last_place c) call s
   unfolding fault
   image-fault call s rest w z = rw z (same-late c facts call s rest w)
 
-  image-run : (call : Call) (s : Counter) (rest : Rest) → Within (last_place c) s → fault call (run_of c s) (image c s rest) ≡ late (last_place c) call s
+  image_run : (call : Call) (s : Counter) (rest : Rest) → Within (last_place c) s → fault call (run_of c s) (image c s rest) ≡ late (last_place c) call s
       → run_after call (run_of c s) (image c s rest) ≡ run_of c (next c call s)
   unfolding run_after
-  image-run call s rest w e = rw e (go (eqb (late (last_place c) call s) 0))
+  image_run call s rest w e = rw e (go (eqb (late (last_place c) call s) 0))
     where
       go : (t : Bool) → pick t (next_run call (run_of c s) (image c s rest)) (run_of c s) ≡ run_of c (pick t (moved (last_place c) call s) s)
-      go true = same-run c facts call s rest w
+      go true = same_run c facts call s rest w
       go false = refl
 
   image-buffers : (call : Call) (s : Counter) (rest : Rest) → Within (last_place c) s → fault call (run_of c s) (image c s rest) ≡ late (last_place c) call s
@@ -269,17 +269,17 @@ module _ (c : Task) (good : Sized c) (facts : Facts c) where
       go false = refl
 
   -- lent enough
-  called-long : (call : Call) (s : Counter) (rest : Rest) (lent : Space) → Within (last_place c) s → lacking (needs c) (lengths_of (front lent (image c s rest))) ≡ false
+  called_long : (call : Call) (s : Counter) (rest : Rest) (lent : Space) → Within (last_place c) s → lacking (needs c) (lengths_of (front lent (image c s rest))) ≡ false
       → Called c call s rest lent (next c call s) (late (last_place c) call s)
-  called-long call s rest lent w e =
+  called_long call s rest lent w e =
       let n : _ = lacking_none (needs c) (lengths_of (front lent (image c s rest))) e in
       let h : Enough (needs c) lent = enough_front lent (image c s rest) n in
       let i : front lent (image c s rest) ≡ image c s (lent_rest c lent rest) = front-image c facts s rest lent w h in
-      let z : held_fault (run_of c s) (image c s (lent_rest c lent rest)) ≡ 0 = image-fine s (lent_rest c lent rest) w (ap (λ (b : Buffers). lacking (needs c) (lengths_of b)) (sym i) ∙ e) in
+      let z : held_fault (run_of c s) (image c s (lent_rest c lent rest)) ≡ 0 = image_fine s (lent_rest c lent rest) w (ap (λ (b : Buffers). lacking (needs c) (lengths_of b)) (sym i) ∙ e) in
       let f : _ = image-fault call s (lent_rest c lent rest) w z in
       record {
         said = ap (fault call (run_of c s)) i ∙ f;
-        left = ap (run_after call (run_of c s)) i ∙ image-run call s (lent_rest c lent rest) w f;
+        left = ap (run_after call (run_of c s)) i ∙ image_run call s (lent_rest c lent rest) w f;
         held =
             ap (λ (b : Buffers). behind lent (image c s rest) (buffers_after call (run_of c s) b)) i
             ∙ ap (behind lent (image c s rest)) (image-buffers call s (lent_rest c lent rest) w f)
@@ -293,40 +293,40 @@ module _ (c : Task) (good : Sized c) (facts : Facts c) where
   called call s rest lent l w e = go (lacking (needs c) l) refl
     where
       go : (t : Bool) → lacking (needs c) l ≡ t → Called c call s rest lent (tick (needs c) (last_place c) call l s) (refused (needs c) (last_place c) call l s)
-      go true t = rw t (called-short call s rest lent (ap (lacking (needs c)) e ∙ t))
-      go false t = rw t (called-long call s rest lent w (ap (lacking (needs c)) e ∙ t))
+      go true t = rw t (called_short call s rest lent (ap (lacking (needs c)) e ∙ t))
+      go false t = rw t (called_long call s rest lent w (ap (lacking (needs c)) e ∙ t))
 
   -- ---- the list
 
-  one-call : (l : Lent) (s : Counter) (rest : Rest) (said : List ℕ) → Within (last_place c) s
+  one_call : (l : Lent) (s : Counter) (rest : Rest) (said : List ℕ) → Within (last_place c) s
       → performed l (held_of c s rest said)
       ≡ held_of c (tick (needs c) (last_place c) l.call (within (sizes c rest) l.space) s) rest (said ++ (refused (needs c) (last_place c) l.call (within (sizes c rest) l.space) s ∷ []))
   unfolding performed
-  one-call l s rest said w =
-      let n : lengths_of (front l.space (image c s rest)) ≡ within (sizes c rest) l.space = lengths_front l.space (image c s rest) ∙ ap (λ (k : Space). within k l.space) (lengths-image c facts s rest w) in
+  one_call l s rest said w =
+      let n : lengths_of (front l.space (image c s rest)) ≡ within (sizes c rest) l.space = lengths_front l.space (image c s rest) ∙ ap (λ (k : Space). within k l.space) (lengths_image c facts s rest w) in
       let g : _ = called l.call s rest l.space (within (sizes c rest) l.space) w n in
       rw (g.said, g.left, g.held)
 
   -- from any place of the machine
-  pub list-from : (ls : List Lent) (s : Counter) (rest : Rest) (said : List ℕ) → Within (last_place c) s
+  pub list_from : (ls : List Lent) (s : Counter) (rest : Rest) (said : List ℕ) → Within (last_place c) s
       → performs ls (held_of c s rest said)
       ≡ held_of c (ticks (needs c) (sizes c rest) (last_place c) ls (record { counter = s; said = said })).counter rest (ticks (needs c) (sizes c rest) (last_place c) ls (record { counter = s; said = said })).said
   unfolding performs ticks
-  list-from [] s rest said w = refl
-  list-from (l ∷ ls) s rest said w =
+  list_from [] s rest said w = refl
+  list_from (l ∷ ls) s rest said w =
       let lent = within (sizes c rest) l.space in
-      ap (performs ls) (one-call l s rest said w)
-      ∙ list-from ls (tick (needs c) (last_place c) l.call lent s) rest (said ++ (refused (needs c) (last_place c) l.call lent s ∷ [])) (within-tick c facts l.call lent s w)
+      ap (performs ls) (one_call l s rest said w)
+      ∙ list_from ls (tick (needs c) (last_place c) l.call lent s) rest (said ++ (refused (needs c) (last_place c) l.call lent s ∷ [])) (within-tick c facts l.call lent s w)
 
   -- The theorem: for every list of calls with arguments and lent fronts, from the record and the buffers as opening left them, however long they are.
-  pub list-theorem : (rest : Rest) (ls : List Lent)
+  pub list_theorem : (rest : Rest) (ls : List Lent)
       → performs ls (record { run = run_of c fresh; all = image c fresh rest; said = [] })
       ≡ record {
         run = run_of c (machine c (lengths_of (image c fresh rest)) ls).counter;
         all = image c (machine c (lengths_of (image c fresh rest)) ls).counter rest;
         said = (machine c (lengths_of (image c fresh rest)) ls).said;
       }
-  list-theorem rest ls = rw (lengths-image c facts fresh rest (fresh-within (last_place c))) (list-from ls fresh rest [] (fresh-within (last_place c)))
+  list_theorem rest ls = rw (lengths_image c facts fresh rest (fresh-within (last_place c))) (list_from ls fresh rest [] (fresh-within (last_place c)))
 
   within-ticks : (all : Space) (ls : List Lent) (s : Counter) (said : List ℕ) → Within (last_place c) s
       → Within (last_place c) (ticks (needs c) all (last_place c) ls (record { counter = s; said = said })).counter

@@ -74,8 +74,8 @@ pub record Read (sheet : List ℕ) (h : Header) : Type 0 where
 
 -- the lent buffers have room for what is laid out there
 pub record Fits (h : Header) (floats words : ℕ) : Type 0 where
-  pub floats-fit : 5 * h.n + 9 * h.t ≤ floats
-  pub words-fit : 5 * h.n + 18 * h.t + 1 ≤ words
+  pub floats_fit : 5 * h.n + 9 * h.t ≤ floats
+  pub words_fit : 5 * h.n + 18 * h.t + 1 ≤ words
 
 -- the task's lists at the front of each buffer
 abbrev pub mesh_floats : Task → List Float → List Float
@@ -85,7 +85,7 @@ abbrev pub mesh_words : Task → List ℕ → List ℕ
 mesh_words c words = splice (splice (splice words 0 c.triangles) (at_neighbours (triangle_count c)) c.neighbours) (at_tags (triangle_count c)) c.tags
 
 pub record Loaded (c : Task) (floats : List Float) (words : List ℕ) (floats' : List Float) (words' : List ℕ) : Type 0 where
-  pub floats-are : floats' ≡ mesh_floats c floats
+  pub floats_are : floats' ≡ mesh_floats c floats
   pub words_are : words' ≡ mesh_words c words
 
 -- where the assembly finds them
@@ -111,16 +111,16 @@ assembled_floats c floats =
     (at_values (vertex_count c) (triangle_count c)) (padded (9 * triangle_count c + vertex_count c) plus_zero (values_of (matrix_of c)))
 
 pub record LaidOut (c : Task) (floats : List Float) (words : List ℕ) (floats' : List Float) (words' : List ℕ) : Type 0 where
-  pub floats-are : floats' ≡ assembled_floats c floats
+  pub floats_are : floats' ≡ assembled_floats c floats
   pub words_are : words' ≡ words_of c (drop (words_used c) words)
 
 -- ---- place 0 of the field
 
 pub record Begins (plan : Plan) (words : List ℕ) (floats : ℕ) : Type 0 where
-  pub n-most : plan.n ≤ max_vertices
-  pub t-most : plan.t ≤ max_triangles
+  pub n_most : plan.n ≤ max_vertices
+  pub t_most : plan.t ≤ max_triangles
   pub limit-most : plan.limit ≤ max_limit
-  pub floats-fit : at_norms plan.n plan.t + (plan.limit + 1) + 3 * plan.n ≤ floats
+  pub floats_fit : at_norms plan.n plan.t + (plan.limit + 1) + 3 * plan.n ≤ floats
   pub sound : Sound words (matrix_at plan.n plan.t)
 
 -- +0 at the gradients, the norms and the kept vectors, which stand in a row
@@ -133,7 +133,7 @@ begun_floats plan s floats = splice (vectors_put plan s floats) (at_norms plan.n
 
 pub record Begun (plan : Plan) (words : List ℕ) (floats : List Float) (rs : Float) (floats' : List Float) : Type 0 where
   pub sum : rs ≡ (begun_again plan words (none_kept plan floats)).rs
-  pub floats-are : floats' ≡ begun_floats plan (begun_again plan words (none_kept plan floats)) (none_kept plan floats)
+  pub floats_are : floats' ≡ begun_floats plan (begun_again plan words (none_kept plan floats)) (none_kept plan floats)
 
 -- ---- all of it
 
@@ -144,7 +144,7 @@ lacks p floats words path = lacking (asked p) (record { floats = floats; words =
 -- an accepted sheet, its plan, and buffers that suffice
 pub record Suffices (sheet : List ℕ) (h : Header) (plan : Plan) (b : Buffers) : Type 0 where
   pub read : Read sheet h
-  pub plan-is : plan ≡ plan_by h
+  pub plan_is : plan ≡ plan_by h
   pub space : Enough (needs (task (content_of sheet))) (lengths_of b)
 
 -- the run of a task at place 0

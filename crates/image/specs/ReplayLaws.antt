@@ -21,18 +21,18 @@ use Rattle.image.specs.Replay.{opened, Opens, call_of, lent_at, decoded, Turned,
 -- ---- opening
 
 module _ (sheet : List ℕ) (b : Buffers) where
-  pub opens-refused : (a : Answer) (k : ℕ) → a ≡ answered k no_run → parse sheet ≡ refused k → Opens sheet b a b
+  pub opens_refused : (a : Answer) (k : ℕ) → a ≡ answered k no_run → parse sheet ≡ refused k → Opens sheet b a b
   unfolding opened
-  opens-refused a k q e = record { answer = q ∙ rw e; held = rw e }
+  opens_refused a k q e = record { answer = q ∙ rw e; held = rw e }
 
-  pub opens-short : (a : Answer) → a ≡ answered 8 no_run → (c : Content) → parse sheet ≡ accepted c → lacking (needs (task c)) (lengths_of b) ≡ true → Opens sheet b a b
+  pub opens_short : (a : Answer) → a ≡ answered 8 no_run → (c : Content) → parse sheet ≡ accepted c → lacking (needs (task c)) (lengths_of b) ≡ true → Opens sheet b a b
   unfolding opened
-  opens-short a q c e t = record { answer = q ∙ rw (e, t); held = rw (e, t) }
+  opens_short a q c e t = record { answer = q ∙ rw (e, t); held = rw (e, t) }
 
-  pub opens-open : (c : Content) (r : Run) (b' : Buffers) → parse sheet ≡ accepted c → lacking (needs (task c)) (lengths_of b) ≡ false → r ≡ run_of (task c) fresh → b' ≡ image (task c) fresh (rest_of (task c) b)
+  pub opens_open : (c : Content) (r : Run) (b' : Buffers) → parse sheet ≡ accepted c → lacking (needs (task c)) (lengths_of b) ≡ false → r ≡ run_of (task c) fresh → b' ≡ image (task c) fresh (rest_of (task c) b)
       → Opens sheet b (answered 0 r) b'
   unfolding opened
-  opens-open c r b' e t f g = record { answer = rw (e, t) (ap (answered 0) f); held = rw (e, t) g }
+  opens_open c r b' e t f g = record { answer = rw (e, t) (ap (answered 0) f); held = rw (e, t) g }
 
 -- ---- the calls
 

@@ -21,7 +21,7 @@ use Rattle.image.specs.CallLaws.{Enough, lacking, lacking_none}
 use Rattle.image.specs.Image.{run_of, image, floats_used, words_used, rest_of}
 use Rattle.image.specs.ImageFacts.{Facts, Parts}
 use Rattle.image.specs.Lists.{Held}
-use Rattle.image.specs.ListTheorem.{sizes, fresh-within, lengths-image, list-theorem, machine-within}
+use Rattle.image.specs.ListTheorem.{sizes, fresh-within, lengths_image, list_theorem, machine-within}
 use Rattle.image.specs.Replay.{Opening, opening, opened_by, opened, Opens, decoded, call_count, replayed, Performs, machine_of, Ran, Replayed}
 use Rattle.image.specs.Shown.{lengths_of, machine}
 use Rattle.image.specs.ShownTheorem.{image-shown}
@@ -44,10 +44,10 @@ sizes_rest c b h =
 
 module _ (c : Task) (good : Sized c) (facts : Facts c) (b : Buffers) (space : short (needs c) (lengths_of b) ≡ 0) where
   pub as_long : lengths_of (image c fresh (rest_of c b)) ≡ lengths_of b
-  as_long = lengths-image c facts fresh (rest_of c b) (fresh-within (last_place c)) ∙ sizes_rest c b (not_short (needs c) (lengths_of b) space)
+  as_long = lengths_image c facts fresh (rest_of c b) (fresh-within (last_place c)) ∙ sizes_rest c b (not_short (needs c) (lengths_of b) space)
 
   -- the calls from there
-  pub replay-theorem : (calls : List ℕ) (i : ℕ)
+  pub replay_theorem : (calls : List ℕ) (i : ℕ)
       → replayed calls i (run_of c fresh) (image c fresh (rest_of c b))
       ≡ record {
         run = run_of c (machine c (lengths_of b) (decoded calls i)).counter;
@@ -55,7 +55,7 @@ module _ (c : Task) (good : Sized c) (facts : Facts c) (b : Buffers) (space : sh
         said = (machine c (lengths_of b) (decoded calls i)).said;
       }
   unfolding replayed
-  replay-theorem calls i = rw (← as_long) (list-theorem c good facts (rest_of c b) (decoded calls i))
+  replay_theorem calls i = rw (← as_long) (list_theorem c good facts (rest_of c b) (decoded calls i))
 
 -- ---- what opening answers
 
@@ -110,7 +110,7 @@ module _ (sheet calls said : List ℕ) (b : Buffers) where
         let n = call_count calls said in
         let s = (machine_of c calls said b).counter in
         let q : replayed calls n run b₁ ≡ record { run = run_of c s; all = image c s (rest_of c b); said = (machine_of c calls said b).said } =
-        ap (λ (x : Run). replayed calls n x b₁) r ∙ ap (replayed calls n (run_of c fresh)) h ∙ replay-theorem c good (facts c good) b z calls n in
+        ap (λ (x : Run). replayed calls n x b₁) r ∙ ap (replayed calls n (run_of c fresh)) h ∙ replay_theorem c good (facts c good) b z calls n in
         let held : b' ≡ image c s (rest_of c b) = p.held ∙ ap (λ (x : Held). x.all) q in
         record {
           answer = ap (answered 0) (p.left ∙ ap (λ (x : Held). x.run) q);
@@ -119,9 +119,9 @@ module _ (sheet calls said : List ℕ) (b : Buffers) where
           shown = rw held (image-shown c good (facts c good) (parts c good) s (rest_of c b) (machine-within c good (facts c good) (lengths_of b) (decoded calls n)));
         }
 
-    pub replayed-open : (a : Answer) (b₁ : Buffers) (run' : Run) (said' : List ℕ) (b' : Buffers) → Opens sheet b a b₁ → a.refused ≡ 0 → Performs calls a.run said b₁ run' said' b'
+    pub replayed_open : (a : Answer) (b₁ : Buffers) (run' : Run) (said' : List ℕ) (b' : Buffers) → Opens sheet b a b₁ → a.refused ≡ 0 → Performs calls a.run said b₁ run' said' b'
         → Replayed sheet calls said b (answered 0 run') said' b'
-    replayed-open a b₁ run' said' b' o e p =
+    replayed_open a b₁ run' said' b' o e p =
         record {
           refuses = λ n. absurd (n (sym (ap (λ (x : Answer). x.refused) o.answer) ∙ e));
           runs = λ c g z.

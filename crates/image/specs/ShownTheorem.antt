@@ -9,8 +9,8 @@ use Rattle.std.proofs.Math.ListN.{length, replicate, length-replicate, get_or-ap
 use Rattle.std.proofs.lemmas.List.{get_or_at}
 use Rattle.binary64.specs.Constants.{plus_zero}
 use Rattle.stretch.specs.Stretch.{part, off}
-use Rattle.stretch.specs.StretchLaws.{part-all, part-front, part-rest}
-use Rattle.stretch.specs.SegmentLaws.{off-suc, part-seg, part-within}
+use Rattle.stretch.specs.StretchLaws.{part_all, part_front, part_rest}
+use Rattle.stretch.specs.SegmentLaws.{off_suc, part_seg, part_within}
 use Rattle.mesh.specs.Element.{flat}
 use Rattle.laplace.specs.Assembly.{Push, pushes, row, rows}
 use Rattle.laplace.specs.Matrix.{AllBelow, row_rising, row_below, pushes_below, symmetric, held-row, held_column_lem}
@@ -24,24 +24,24 @@ use Rattle.model.specs.Machine.{Counter, fresh, Lent}
 use Rattle.work.specs.Layout.{at_x, at_gradients, at_norms}
 use Rattle.image.specs.Image.{run_of, kept_vectors, float_segments, floats_of, path_of, Rest, image}
 use Rattle.image.specs.ImageFacts.{MarkIn, Facts, Parts}
-use Rattle.image.specs.ImageLawsPadded.{length-padded, part-padded}
-use Rattle.image.specs.ListTheorem.{Within, machine-within, list-theorem}
+use Rattle.image.specs.ImageLawsPadded.{length-padded, part_padded}
+use Rattle.image.specs.ListTheorem.{Within, machine-within, list_theorem}
 use Rattle.image.specs.Lists.{Held, performs}
 use Rattle.image.specs.Shown.{lengths_of, machine, Symmetric, Shown, ListShown}
 
 -- ---- a list with +0 up to k places
 
 module _ {A : Type 0} (k : ℕ) (z : A) (l : List A) where
-  padded-filled : part (padded k z l) 0 (length l) ≡ l
-  padded-filled = part-padded k z l (length l) refl
+  padded_filled : part (padded k z l) 0 (length l) ≡ l
+  padded_filled = part_padded k z l (length l) refl
 
   padded-beyond : part (padded k z l) (length l) (k - length l) ≡ replicate (k - length l) z
   unfolding padded
   padded-beyond =
       let e : length l ≡ length l + 0 = omega arith in
       let f : length (replicate (k - length l) z) ≡ k - length l = length-replicate (k - length l) z in
-      ap (λ (j : ℕ). part (l ++ replicate (k - length l) z) j (k - length l)) e ∙ part-rest l (replicate (k - length l) z) 0 (k - length l)
-      ∙ part-all (replicate (k - length l) z) (k - length l) (omega arith)
+      ap (λ (j : ℕ). part (l ++ replicate (k - length l) z) j (k - length l)) e ∙ part_rest l (replicate (k - length l) z) 0 (k - length l)
+      ∙ part_all (replicate (k - length l) z) (k - length l) (omega arith)
 
 -- ---- the parts of the buffers
 
@@ -50,62 +50,62 @@ module _ (c : Task) (good : Sized c) (parts : Parts c) where
     abbrev segments : List (List Float)
     segments = float_segments c (at c s.place) s.mark floats
 
-    off-x : at_x (vertex_count c) (triangle_count c) ≡ off segments 4
+    off_x : at_x (vertex_count c) (triangle_count c) ≡ off segments 4
     unfolding off
-    off-x =
+    off_x =
         let v : _ = good.vertices in
-        let b : _ = parts.right-long in
+        let b : _ = parts.right_long in
         let z : _ = length-replicate (vertex_count c) plus_zero in
-        let a : _ = length-padded (9 * triangle_count c + vertex_count c) plus_zero (values_of (matrix_of c)) parts.values-long in
+        let a : _ = length-padded (9 * triangle_count c + vertex_count c) plus_zero (values_of (matrix_of c)) parts.values_long in
         omega arith
 
-    off-gradients : at_gradients (vertex_count c) (triangle_count c) ≡ off segments 8
+    off_gradients : at_gradients (vertex_count c) (triangle_count c) ≡ off segments 8
     unfolding off
-    off-gradients =
+    off_gradients =
         let v : _ = good.vertices in
-        let b : _ = parts.right-long in
+        let b : _ = parts.right_long in
         let z : _ = length-replicate (vertex_count c) plus_zero in
-        let a : _ = length-padded (9 * triangle_count c + vertex_count c) plus_zero (values_of (matrix_of c)) parts.values-long in
-        let x : _ = parts.x-long s.place w.place_in in
-        let r : _ = parts.r-long s.place w.place_in in
-        let p : _ = parts.p-long s.place w.place_in in
+        let a : _ = length-padded (9 * triangle_count c + vertex_count c) plus_zero (values_of (matrix_of c)) parts.values_long in
+        let x : _ = parts.x_long s.place w.place_in in
+        let r : _ = parts.r_long s.place w.place_in in
+        let p : _ = parts.p_long s.place w.place_in in
         omega arith
 
-    off-norms : at_norms (vertex_count c) (triangle_count c) ≡ off segments 9
-    off-norms =
-        let g : _ = parts.gradients-long s.place w.place_in in
-        let e : _ = off-gradients in
-        let n : off segments 9 ≡ off segments 8 + length (at c s.place).trail.gradients = off-suc segments 8 in
+    off_norms : at_norms (vertex_count c) (triangle_count c) ≡ off segments 9
+    off_norms =
+        let g : _ = parts.gradients_long s.place w.place_in in
+        let e : _ = off_gradients in
+        let n : off segments 9 ≡ off segments 8 + length (at c s.place).trail.gradients = off_suc segments 8 in
         omega arith
 
     abbrev norms : List Float
     norms = (at c s.place).field.norms
 
-    field-part : part (floats_of c (at c s.place) s.mark floats) (at_x (vertex_count c) (triangle_count c)) (vertex_count c) ≡ (at c s.place).field.solve.x
+    field_part : part (floats_of c (at c s.place) s.mark floats) (at_x (vertex_count c) (triangle_count c)) (vertex_count c) ≡ (at c s.place).field.solve.x
     unfolding floats_of
-    field-part = part-seg segments 4 (at_x (vertex_count c) (triangle_count c)) (vertex_count c) off-x (omega arith) (sym (parts.x-long s.place w.place_in))
+    field_part = part_seg segments 4 (at_x (vertex_count c) (triangle_count c)) (vertex_count c) off_x (omega arith) (sym (parts.x_long s.place w.place_in))
 
-    gradients-part : part (floats_of c (at c s.place) s.mark floats) (at_gradients (vertex_count c) (triangle_count c)) (2 * triangle_count c) ≡ (at c s.place).trail.gradients
+    gradients_part : part (floats_of c (at c s.place) s.mark floats) (at_gradients (vertex_count c) (triangle_count c)) (2 * triangle_count c) ≡ (at c s.place).trail.gradients
     unfolding floats_of
-    gradients-part =
-        part-seg segments 8 (at_gradients (vertex_count c) (triangle_count c)) (2 * triangle_count c) off-gradients (omega arith) (sym (parts.gradients-long s.place w.place_in))
+    gradients_part =
+        part_seg segments 8 (at_gradients (vertex_count c) (triangle_count c)) (2 * triangle_count c) off_gradients (omega arith) (sym (parts.gradients_long s.place w.place_in))
 
-    norms-part : part (floats_of c (at c s.place) s.mark floats) (at_norms (vertex_count c) (triangle_count c)) (length norms) ≡ norms
+    norms_part : part (floats_of c (at c s.place) s.mark floats) (at_norms (vertex_count c) (triangle_count c)) (length norms) ≡ norms
     unfolding floats_of
-    norms-part =
-        let h : _ = parts.norms-long s.place w.place_in in
+    norms_part =
+        let h : _ = parts.norms_long s.place w.place_in in
         let l : _ = length-padded (c.limit + 1) plus_zero norms h in
-        let o : _ = off-norms in
-        part-within segments 9 0 (at_norms (vertex_count c) (triangle_count c)) (length norms) (omega arith) (omega arith) (omega arith) ∙ padded-filled (c.limit + 1) plus_zero norms
+        let o : _ = off_norms in
+        part_within segments 9 0 (at_norms (vertex_count c) (triangle_count c)) (length norms) (omega arith) (omega arith) (omega arith) ∙ padded_filled (c.limit + 1) plus_zero norms
 
-    beyond-norms : part (floats_of c (at c s.place) s.mark floats) (at_norms (vertex_count c) (triangle_count c) + length norms) (c.limit + 1 - length norms)
+    beyond_norms_lem : part (floats_of c (at c s.place) s.mark floats) (at_norms (vertex_count c) (triangle_count c) + length norms) (c.limit + 1 - length norms)
         ≡ replicate (c.limit + 1 - length norms) plus_zero
     unfolding floats_of
-    beyond-norms =
-        let h : _ = parts.norms-long s.place w.place_in in
+    beyond_norms_lem =
+        let h : _ = parts.norms_long s.place w.place_in in
         let l : _ = length-padded (c.limit + 1) plus_zero norms h in
-        let o : _ = off-norms in
-        part-within segments 9 (length norms) (at_norms (vertex_count c) (triangle_count c) + length norms) (c.limit + 1 - length norms) (omega arith) (omega arith) (omega arith)
+        let o : _ = off_norms in
+        part_within segments 9 (length norms) (at_norms (vertex_count c) (triangle_count c) + length norms) (c.limit + 1 - length norms) (omega arith) (omega arith) (omega arith)
         ∙ padded-beyond (c.limit + 1) plus_zero norms
 
   module _ (p : ℕ) (rest : List Float) (h : p ≤ last_place c) where
@@ -115,22 +115,22 @@ module _ (c : Task) (good : Sized c) (parts : Parts c) where
     abbrev filled : ℕ
     filled = point_floats * (at c p).trail.walk.points
 
-    points-part : part (path_of c (at c p) rest) 0 filled ≡ path
+    points_part : part (path_of c (at c p) rest) 0 filled ≡ path
     unfolding path_of
-    points-part =
-        let t : length path ≡ filled = parts.path-counted p h in
-        let u : _ = parts.points-in p h in
+    points_part =
+        let t : length path ≡ filled = parts.path_counted p h in
+        let u : _ = parts.points_in_lem p h in
         let l : length (padded (point_floats * c.room) plus_zero path) ≡ point_floats * c.room = length-padded (point_floats * c.room) plus_zero path (omega arith) in
-        rw (← t) (part-front (padded (point_floats * c.room) plus_zero path) rest 0 (length path) (omega arith) ∙ padded-filled (point_floats * c.room) plus_zero path)
+        rw (← t) (part_front (padded (point_floats * c.room) plus_zero path) rest 0 (length path) (omega arith) ∙ padded_filled (point_floats * c.room) plus_zero path)
 
-    beyond-points : part (path_of c (at c p) rest) filled (point_floats * c.room - filled) ≡ replicate (point_floats * c.room - filled) plus_zero
+    beyond_points_lem : part (path_of c (at c p) rest) filled (point_floats * c.room - filled) ≡ replicate (point_floats * c.room - filled) plus_zero
     unfolding path_of
-    beyond-points =
-        let t : length path ≡ filled = parts.path-counted p h in
-        let u : _ = parts.points-in p h in
+    beyond_points_lem =
+        let t : length path ≡ filled = parts.path_counted p h in
+        let u : _ = parts.points_in_lem p h in
         let l : length (padded (point_floats * c.room) plus_zero path) ≡ point_floats * c.room = length-padded (point_floats * c.room) plus_zero path (omega arith) in
         rw (← t)
-        (part-front (padded (point_floats * c.room) plus_zero path) rest (length path) (point_floats * c.room - length path) (omega arith) ∙ padded-beyond (point_floats * c.room) plus_zero path)
+        (part_front (padded (point_floats * c.room) plus_zero path) rest (length path) (point_floats * c.room - length path) (omega arith) ∙ padded-beyond (point_floats * c.room) plus_zero path)
 
 -- ---- the matrix
 
@@ -185,20 +185,20 @@ module _ (c : Task) (good : Sized c) (facts : Facts c) (parts : Parts c) where
         reach = omega arith;
         field_end = refl;
         path_end = refl;
-        field = field-part c good parts s rest.floats w;
-        gradients = gradients-part c good parts s rest.floats w;
+        field = field_part c good parts s rest.floats w;
+        gradients = gradients_part c good parts s rest.floats w;
         norm_count = refl;
-        norms = norms-part c good parts s rest.floats w;
-        beyond_norms = beyond-norms c good parts s rest.floats w;
+        norms = norms_part c good parts s rest.floats w;
+        beyond_norms = beyond_norms_lem c good parts s rest.floats w;
         point_count = refl;
-        points = points-part c good parts s.place rest.path w.place_in;
-        beyond_points = beyond-points c good parts s.place rest.path w.place_in;
+        points = points_part c good parts s.place rest.path w.place_in;
+        beyond_points = beyond_points_lem c good parts s.place rest.path w.place_in;
         matrix = m;
         symmetric = rw m (matrix_symmetric c good);
       }
 
   -- Demand 3: so it is after every list of calls with arguments and lent fronts, and each refusal is the machine's.
-  pub list-shown : (rest : Rest) (ls : List Lent) → ListShown c (machine c (lengths_of (image c fresh rest)) ls) (performs ls (as_opened c rest))
-  list-shown rest ls =
+  pub list_shown : (rest : Rest) (ls : List Lent) → ListShown c (machine c (lengths_of (image c fresh rest)) ls) (performs ls (as_opened c rest))
+  list_shown rest ls =
       let t = machine c (lengths_of (image c fresh rest)) ls in
-      rw (list-theorem c good facts rest ls) (record { refusals = refl; shown = image-shown t.counter rest (machine-within c good facts (lengths_of (image c fresh rest)) ls) })
+      rw (list_theorem c good facts rest ls) (record { refusals = refl; shown = image-shown t.counter rest (machine-within c good facts (lengths_of (image c fresh rest)) ls) })

@@ -13,7 +13,7 @@ use Rattle.binary64.specs.Constants.{plus_zero}
 use Rattle.binary64.specs.Number.{pick}
 use Rattle.plane.specs.declared.Point.{Point}
 use Rattle.stretch.specs.Stretch.{splice}
-use Rattle.stretch.specs.StretchLaws.{length_part, splice-comm}
+use Rattle.stretch.specs.StretchLaws.{length_part, splice_comm}
 use Rattle.sparse.specs.declared.Csr.{Csr}
 use Rattle.sparse.specs.Stored.{matrix}
 use Rattle.sparse.specs.ProductLaws.{length-rows_of}
@@ -55,31 +55,31 @@ use Rattle.work.proofs.Laws.{pick_small, once_comes}
 -- ---- a pass of solving
 
 solve_row : (plan : Plan) (l : ℕ) → at_norms plan.n plan.t ≤ l → InRow l (vectors_at plan.n plan.t) plan.n
-solve_row plan l h = record { r-after = omega arith; p-after = omega arith; product-after = omega arith; ends = omega arith }
+solve_row plan l h = record { r_after = omega arith; p_after = omega arith; product_after = omega arith; ends = omega arith }
 
 -- the vectors lie behind the matrix
 pub solve_laid : (plan : Plan) (words : List ℕ) (l : ℕ) (m : Csr) (v : Vectors) → Ready plan words → l ≡ at_norms plan.n plan.t → m ≡ matrix_at plan.n plan.t → v ≡ vectors_at plan.n plan.t
     → Laid words l m v
-solve_laid plan words l m v r h em ev = rw (em, ev) (record { sound = r.sound; in_row = solve_row plan l (omega arith); values-fit = omega arith; values-outside = inl (omega arith) })
+solve_laid plan words l m v r h em ev = rw (em, ev) (record { sound = r.sound; in_row = solve_row plan l (omega arith); values_fit = omega arith; values_outside = inl (omega arith) })
 
 -- what is left of a front, and the answer, by what the pass comes to
 module _ (plan : Plan) (f : List Float) (s : Stand) (turn : Turn) (f' : List Float) (left : f' ≡ stored_after plan.n f (vectors_at plan.n plan.t) turn) (s' : Stand) where
-  leads-halted : turn ≡ halted → s' ≡ solved_stand s s.rs s.norms 2 → Leads (solved_step plan s f turn) (record { stand = s'; gives = Gives.Nothing }) f'
+  leads_halted : turn ≡ halted → s' ≡ solved_stand s s.rs s.norms 2 → Leads (solved_step plan s f turn) (record { stand = s'; gives = Gives.Nothing }) f'
   unfolding solved_step stored_after
-  leads-halted e es = let l = rw e at left in rw e (record { stand = es; gives = refl; front = l })
+  leads_halted e es = let l = rw e at left in rw e (record { stand = es; gives = refl; front = l })
 
-  leads-reached : (x r : List Float) (norm : Float) → turn ≡ reached x r norm → s' ≡ solved_stand s s.rs (s.norms + 1) 1
+  leads_reached : (x r : List Float) (norm : Float) → turn ≡ reached x r norm → s' ≡ solved_stand s s.rs (s.norms + 1) 1
       → Leads (solved_step plan s f turn) (record { stand = s'; gives = Gives.Norm norm }) f'
   unfolding solved_step stored_after
-  leads-reached x r norm e es = let l = rw e at left in rw e (record { stand = es; gives = refl; front = l })
+  leads_reached x r norm e es = let l = rw e at left in rw e (record { stand = es; gives = refl; front = l })
 
   -- the product is cleared before p is written, or after it
-  leads-moved : (u : Solve) (rs norm : Float) (end : ℕ) → turn ≡ moved u norm → u.rs ≡ rs → length u.p ≡ plan.n → end ≡ pick (leb plan.limit s.norms) 3 0
+  leads_moved : (u : Solve) (rs norm : Float) (end : ℕ) → turn ≡ moved u norm → u.rs ≡ rs → length u.p ≡ plan.n → end ≡ pick (leb plan.limit s.norms) 3 0
       → s' ≡ solved_stand s rs (s.norms + 1) end → Leads (solved_step plan s f turn) (record { stand = s'; gives = Gives.Norm norm }) f'
   unfolding solved_step stored_after placed
-  leads-moved u rs norm end e er el ee es =
+  leads_moved u rs norm end e er el ee es =
       let l = rw e at left in
-      rw (e, er, ← ee) (record { stand = es; gives = refl; front = l ∙ splice-comm _ (at_p plan.n plan.t) (at_product plan.n plan.t) u.p (replicate plan.n plus_zero) (omega arith) })
+      rw (e, er, ← ee) (record { stand = es; gives = refl; front = l ∙ splice_comm _ (at_p plan.n plan.t) (at_product plan.n plan.t) u.p (replicate plan.n plus_zero) (omega arith) })
 
 -- the pass as it stands in a front, at the plan's places
 module _ (plan : Plan) (words : List ℕ) (f : List Float) (s : Stand) (long : length f ≡ at_norms plan.n plan.t) where
@@ -89,32 +89,32 @@ module _ (plan : Plan) (words : List ℕ) (f : List Float) (s : Stand) (long : l
   abbrev turn : Turn
   turn = turn_of plan words f s
 
-  vectors-long : Long plan.n vectors
-  vectors-long = record { x-long = length_part f (at_x plan.n plan.t) plan.n (omega arith); r-long = length_part f (at_r plan.n plan.t) plan.n (omega arith); p-long = length_part f (at_p plan.n plan.t) plan.n (omega arith) }
+  vectors_long : Long plan.n vectors
+  vectors_long = record { x_long = length_part f (at_x plan.n plan.t) plan.n (omega arith); r_long = length_part f (at_r plan.n plan.t) plan.n (omega arith); p_long = length_part f (at_p plan.n plan.t) plan.n (omega arith) }
 
-  after-is-long : Long plan.n (after vectors turn)
-  after-is-long = after_long plan.n flat (matrix words f (matrix_at plan.n plan.t)) plan.tolerance vectors (length-rows_of words f (matrix_at plan.n plan.t) plan.n) vectors-long
+  after_is_long : Long plan.n (after vectors turn)
+  after_is_long = after_long plan.n flat (matrix words f (matrix_at plan.n plan.t)) plan.tolerance vectors (length-rows_of words f (matrix_at plan.n plan.t) plan.n) vectors_long
 
   module _ (f' : List Float) (m : Csr) (v : Vectors) (answer : Pass) (em : m ≡ matrix_at plan.n plan.t) (ev : v ≡ vectors_at plan.n plan.t)
       (d : Passed f f' m.rows v (Placed.turn_of words f m v flat plan.tolerance s.rs) answer) (s' : Stand) where
     passed : Passed f f' plan.n (vectors_at plan.n plan.t) turn answer
     passed = rw (em, ev) at d
 
-    pub solve-halted : answer ≡ Pass.Halted → s' ≡ solved_stand s s.rs s.norms 2 → Leads (solve_step plan words f s) (record { stand = s'; gives = Gives.Nothing }) f'
+    pub solve_halted : answer ≡ Pass.Halted → s' ≡ solved_stand s s.rs s.norms 2 → Leads (solve_step plan words f s) (record { stand = s'; gives = Gives.Nothing }) f'
     unfolding solve_step
-    solve-halted e es = leads-halted plan f s turn f' passed.left s' (halted_of turn (sym e ∙ passed.said)) es
+    solve_halted e es = leads_halted plan f s turn f' passed.left s' (halted_of turn (sym e ∙ passed.said)) es
 
-    pub solve-reached : (norm : Float) → answer ≡ Pass.Reached norm → s' ≡ solved_stand s s.rs (s.norms + 1) 1
+    pub solve_reached : (norm : Float) → answer ≡ Pass.Reached norm → s' ≡ solved_stand s s.rs (s.norms + 1) 1
         → Leads (solve_step plan words f s) (record { stand = s'; gives = Gives.Norm norm }) f'
     unfolding solve_step
-    solve-reached norm e es = leads-reached plan f s turn f' passed.left s' (after vectors turn).x (after vectors turn).r norm (reached_of vectors turn norm (sym e ∙ passed.said)) es
+    solve_reached norm e es = leads_reached plan f s turn f' passed.left s' (after vectors turn).x (after vectors turn).r norm (reached_of vectors turn norm (sym e ∙ passed.said)) es
 
-    pub solve-moved : (rs norm : Float) (end : ℕ) → answer ≡ Pass.Moved rs norm → end ≡ pick (leb plan.limit s.norms) 3 0 → s' ≡ solved_stand s rs (s.norms + 1) end
+    pub solve_moved : (rs norm : Float) (end : ℕ) → answer ≡ Pass.Moved rs norm → end ≡ pick (leb plan.limit s.norms) 3 0 → s' ≡ solved_stand s rs (s.norms + 1) end
         → Leads (solve_step plan words f s) (record { stand = s'; gives = Gives.Norm norm }) f'
     unfolding solve_step
-    solve-moved rs norm end e ee es =
+    solve_moved rs norm end e ee es =
         let t = moved_of vectors turn rs norm (sym e ∙ passed.said) in
-        leads-moved plan f s turn f' passed.left s' (after vectors turn) rs norm end t.0 t.1 after-is-long.p-long ee es
+        leads_moved plan f s turn f' passed.left s' (after vectors turn) rs norm end t.0 t.1 after_is_long.p_long ee es
 
 -- how many norms there are at most
 pub norms_few : {plan : Plan} {words : List ℕ} {s : Stand} → Ready plan words → Standing plan s → s.norms ≤ 100001
@@ -123,17 +123,17 @@ norms_few {plan} {words} {s} r st = omega (arith, r.limit-most, st.norms_most, p
 -- ---- the mesh, the field and the gradients in a front
 
 module _ (plan : Plan) (words : List ℕ) (f : List Float) (m : Mesh) (em : m ≡ mesh_at plan.n plan.t) (h : Searchable plan words f) where
-  pub front-meshed : Meshed f words m
-  front-meshed = rw em (record { linked = h.ready.linked; vertices-fit = omega (arith, h.long) })
+  pub front_meshed : Meshed f words m
+  front_meshed = rw em (record { linked = h.ready.linked; vertices_fit = omega (arith, h.long) })
 
-  pub front-fielded : (u : ℕ) → u ≡ at_x plan.n plan.t → Fielded f words m u
-  front-fielded u eu = let e : m.n ≡ plan.n = ap (λ (x : Mesh). x.n) em in record { meshed = front-meshed; field_fits = omega (arith, h.long) }
+  pub front_fielded : (u : ℕ) → u ≡ at_x plan.n plan.t → Fielded f words m u
+  front_fielded u eu = let e : m.n ≡ plan.n = ap (λ (x : Mesh). x.n) em in record { meshed = front_meshed; field_fits = omega (arith, h.long) }
 
-  pub front-graded : (at : ℕ) → at ≡ at_gradients plan.n plan.t → at + 2 * m.t ≤ length f
-  front-graded at ea = let e : m.t ≡ plan.t = ap (λ (x : Mesh). x.t) em in omega (arith, h.long)
+  pub front_graded : (at : ℕ) → at ≡ at_gradients plan.n plan.t → at + 2 * m.t ≤ length f
+  front_graded at ea = let e : m.t ≡ plan.t = ap (λ (x : Mesh). x.t) em in omega (arith, h.long)
 
-  pub front-laid : (u at : ℕ) → u ≡ at_x plan.n plan.t → at ≡ at_gradients plan.n plan.t → Gradients.Laid f words m u at
-  front-laid u at eu ea = rw (em, eu, ea) (record { meshed = rw em at front-meshed; vertices-before = omega arith; field-before = omega arith; fits = omega (arith, h.long) })
+  pub front_laid : (u at : ℕ) → u ≡ at_x plan.n plan.t → at ≡ at_gradients plan.n plan.t → Gradients.Laid f words m u at
+  front_laid u at eu ea = rw (em, eu, ea) (record { meshed = rw em at front_meshed; vertices_before = omega arith; field_before = omega arith; fits = omega (arith, h.long) })
 
 -- a triangle of the plan is one of the mesh
 pub triangle_in_mesh : (m : Mesh) (plan : Plan) (k : ℕ) → m ≡ mesh_at plan.n plan.t → k < plan.t → k < m.t
@@ -150,9 +150,9 @@ pub found_picked : (floats : List Float) (words : List ℕ) (m : Mesh) (u : ℕ)
 found_picked floats words m u g r eg e = rw eg e
 
 module _ (plan : Plan) (words : List ℕ) (f : List Float) (m : Mesh) (em : m ≡ mesh_at plan.n plan.t) where
-  pub gradients-put : (f' : List Float) (u at : ℕ) → u ≡ at_x plan.n plan.t → at ≡ at_gradients plan.n plan.t → f' ≡ splice f at (gradients_in flat f words m u) → f' ≡ gradients_put plan words f
+  pub gradients_put_lem : (f' : List Float) (u at : ℕ) → u ≡ at_x plan.n plan.t → at ≡ at_gradients plan.n plan.t → f' ≡ splice f at (gradients_in flat f words m u) → f' ≡ gradients_put plan words f
   unfolding vertices_of triangles_of
-  gradients-put f' u at eu ea e = rw (em, eu, ea) at e
+  gradients_put_lem f' u at eu ea e = rw (em, eu, ea) at e
 
   -- the start in a front
   found_front : (u : ℕ) (g : Given) → u ≡ at_x plan.n plan.t → found_in f words m u g ≡ found_by plan words f g
@@ -160,9 +160,9 @@ module _ (plan : Plan) (words : List ℕ) (f : List Float) (m : Mesh) (em : m �
   found_front u (Given.At p) eu = rw em
   found_front u Given.Nothing eu = rw (em, eu)
 
-  pub start-sets-out : (s : Stand) (u : ℕ) (found : Start) (d : Step) → u ≡ at_x plan.n plan.t → found ≡ found_in f words m u plan.start → SetsOut (set_out_step s [] (lost_by plan.start) found) d
+  pub start_sets_out : (s : Stand) (u : ℕ) (found : Start) (d : Step) → u ≡ at_x plan.n plan.t → found ≡ found_in f words m u plan.start → SetsOut (set_out_step s [] (lost_by plan.start) found) d
       → SetsOut (start_by plan words f s plan.start) d
-  start-sets-out s u found d eu ef o =
+  start_sets_out s u found d eu ef o =
       let k : ℕ = lost_by plan.start in
       let same = set_out-same s [] (gradients_put plan words f) k found in
       let i : set_out_step s (gradients_put plan words f) k found ≡ start_by plan words f s plan.start =
@@ -170,15 +170,15 @@ module _ (plan : Plan) (words : List ℕ) (f : List Float) (m : Mesh) (em : m �
       record { stand = o.stand ∙ same.0 ∙ ap (λ (x : Stepped). x.stand) i; gives = o.gives ∙ same.1 ∙ ap (λ (x : Stepped). x.gives) i }
 
 module _ (s : Stand) (given : Given) (found : Start) (s' : Stand) where
-  pub start-lost : (e : ℕ) (w : Walk) → found ≡ Start.Nothing → e ≡ lost_by given → w ≡ ended nowhere e → s' ≡ walked_stand s w 0
+  pub start_lost : (e : ℕ) (w : Walk) → found ≡ Start.Nothing → e ≡ lost_by given → w ≡ ended nowhere e → s' ≡ walked_stand s w 0
       → SetsOut (set_out_step s [] (lost_by given) found) (record { stand = s'; gives = Gives.Nothing })
   unfolding set_out_step
-  start-lost e w en ee ew es = rw en (record { stand = es ∙ ap (λ (x : Walk). walked_stand s x 0) (ew ∙ ap (ended nowhere) ee); gives = refl })
+  start_lost e w en ee ew es = rw en (record { stand = es ∙ ap (λ (x : Walk). walked_stand s x 0) (ew ∙ ap (ended nowhere) ee); gives = refl })
 
-  pub start-found : (p : Point) (t e : ℕ) → found ≡ Start.At p t e → s' ≡ walked_stand s (record { position = p; triangle = t; edge = e; points = 1; end = 0 }) 0
+  pub start_found : (p : Point) (t e : ℕ) → found ≡ Start.At p t e → s' ≡ walked_stand s (record { position = p; triangle = t; edge = e; points = 1; end = 0 }) 0
       → SetsOut (set_out_step s [] (lost_by given) found) (record { stand = s'; gives = Gives.First p })
   unfolding set_out_step
-  start-found p t e ea es = rw ea (record { stand = es; gives = refl })
+  start_found p t e ea es = rw ea (record { stand = es; gives = refl })
 
 set_out-front : (s : Stand) (f : List Float) (k : ℕ) (st : Start) → (set_out_step s f k st).front ≡ f
 unfolding set_out_step
@@ -217,30 +217,30 @@ cross_leads plan words f s c s' ec es = record { stand = es ∙ ap (crossed_stan
 -- ---- any pass
 
 module _ (plan : Plan) (words : List ℕ) (f : List Float) (s : Stand) where
-  pub steps-over : (s.walk.end ≡ 0 → ⊥) → Steps plan words f s (record { stand = s; gives = Gives.Nothing }) f
-  steps-over n =
+  pub steps_over : (s.walk.end ≡ 0 → ⊥) → Steps plan words f s (record { stand = s; gives = Gives.Nothing }) f
+  steps_over n =
       let e = sym (step_over plan words f s n) in
       record { stand = ap (λ (d : Stepped). d.stand) e; gives = ap (λ (d : Stepped). d.gives) e; front = ap (λ (d : Stepped). d.front) e }
 
   module _ (r : Step) (f' : List Float) where
-    leads-steps : (d : Stepped) → d ≡ step_on plan words f s → Leads d r f' → Steps plan words f s r f'
-    leads-steps d e l = record {
+    leads_steps : (d : Stepped) → d ≡ step_on plan words f s → Leads d r f' → Steps plan words f s r f'
+    leads_steps d e l = record {
       stand = l.stand ∙ ap (λ (x : Stepped). x.stand) e;
       gives = l.gives ∙ ap (λ (x : Stepped). x.gives) e;
       front = l.front ∙ ap (λ (x : Stepped). x.front) e;
     }
 
-    pub steps-solve : s.walk.end ≡ 0 → s.end ≡ 0 → Leads (solve_step plan words f s) r f' → Steps plan words f s r f'
+    pub steps_solve : s.walk.end ≡ 0 → s.end ≡ 0 → Leads (solve_step plan words f s) r f' → Steps plan words f s r f'
     unfolding step_on next_of
-    steps-solve e z l = leads-steps (solve_step plan words f s) (rw (eq-eqb s.walk.end 0 e, eq-eqb s.end 0 z)) l
+    steps_solve e z l = leads_steps (solve_step plan words f s) (rw (eq-eqb s.walk.end 0 e, eq-eqb s.end 0 z)) l
 
-    pub steps-begin : s.walk.end ≡ 0 → (s.end ≡ 0 → ⊥) → s.walk.points ≡ 0 → Leads (begin_step plan words f s) r f' → Steps plan words f s r f'
+    pub steps_begin : s.walk.end ≡ 0 → (s.end ≡ 0 → ⊥) → s.walk.points ≡ 0 → Leads (begin_step plan words f s) r f' → Steps plan words f s r f'
     unfolding step_on next_of
-    steps-begin e z k l = leads-steps (begin_step plan words f s) (rw (eq-eqb s.walk.end 0 e, ne_eqb s.end 0 z, eq-eqb s.walk.points 0 k)) l
+    steps_begin e z k l = leads_steps (begin_step plan words f s) (rw (eq-eqb s.walk.end 0 e, ne_eqb s.end 0 z, eq-eqb s.walk.points 0 k)) l
 
-    pub steps-cross : s.walk.end ≡ 0 → (s.end ≡ 0 → ⊥) → (s.walk.points ≡ 0 → ⊥) → Leads (cross_step plan words f s) r f' → Steps plan words f s r f'
+    pub steps_cross : s.walk.end ≡ 0 → (s.end ≡ 0 → ⊥) → (s.walk.points ≡ 0 → ⊥) → Leads (cross_step plan words f s) r f' → Steps plan words f s r f'
     unfolding step_on next_of
-    steps-cross e z k l = leads-steps (cross_step plan words f s) (rw (eq-eqb s.walk.end 0 e, ne_eqb s.end 0 z, ne_eqb s.walk.points 0 k)) l
+    steps_cross e z k l = leads_steps (cross_step plan words f s) (rw (eq-eqb s.walk.end 0 e, ne_eqb s.end 0 z, ne_eqb s.walk.points 0 k)) l
 
 -- ---- a crossing on the whole buffers
 
@@ -257,5 +257,5 @@ pub cross_comes : (plan : Plan) (words : List ℕ) (s : Stand) (m p p' : List Fl
     → c ≡ crossing_of plan words (take k m) s → p' ≡ splice p (point_floats * s.walk.points) (coordinates_of (added plan.room s.walk c)) → s' ≡ crossed_stand plan s c → Comes (once plan words (work m p s)) s' m p'
 cross_comes plan words s m p p' c s' k e x ec ep es =
     once_comes plan words s m p (take k m) m p' (record { stand = s'; gives = Gives.Crossed c }) k e
-    (steps-cross plan words (take k m) s _ (take k m) x.unended x.solved x.some (cross_leads plan words (take k m) s c s' ec es))
+    (steps_cross plan words (take k m) s _ (take k m) x.unended x.solved x.some (cross_leads plan words (take k m) s c s' ec es))
     (sym (take-append-drop k m), ep)

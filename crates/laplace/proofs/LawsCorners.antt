@@ -12,7 +12,7 @@ use lib.Seq.{drop-cons, ext_get_or, get_or_at, get_or-set_same, get_or-set_other
 use borrow.Author.Tests.{eqb-true, eqb-false}
 use Rattle.binary64.specs.Number.{pick}
 use Rattle.stretch.specs.Stretch.{part, splice}
-use Rattle.stretch.specs.StretchLaws.{length_part, get_d_part, length-splice, splice-cons, splice-nil, splice-splice-same, get_or-splice-before, get_or-splice-at, set-splice-before, set-splice-in, part-splice-before}
+use Rattle.stretch.specs.StretchLaws.{length_part, get_d_part, length-splice, splice_cons, splice_nil, splice-splice-same, get_or-splice-before, get_or-splice-at, set-splice-before, set-splice_in, part_splice-before}
 use Rattle.laplace.specs.declared.Places.{Places}
 use Rattle.laplace.specs.Matrix.{AllBelow}
 use Rattle.laplace.specs.Laid.{Few, LaidWords}
@@ -83,8 +83,8 @@ heads_cons k t ts n h =
 -- corners, heads and links lie in a row in w
 pub record Linkable (w : List ℕ) (n t triangles heads links : ℕ) : Type 0 where
   pub few : Few n t
-  pub before-heads : triangles + 3 * t ≤ heads
-  pub before-links : heads + n ≤ links
+  pub before_heads : triangles + 3 * t ≤ heads
+  pub before_links : heads + n ≤ links
   pub fits : links + 3 * t ≤ length w
   pub corners : AllBelow n (part w triangles (3 * t))
 
@@ -95,8 +95,8 @@ pub record Linking (w₀ w : List ℕ) (n t triangles heads links k : ℕ) : Typ
   pub is : w ≡ splice (splice w₀ heads (heads_from k (drop k (part w₀ triangles (3 * t))) n)) (links + k) (links_from k (drop k (part w₀ triangles (3 * t))))
 
 module _ (w₀ w : List ℕ) (n t triangles heads links : ℕ) (b : Linkable w₀ n t triangles heads links) where
-  corners-length : length (part w₀ triangles (3 * t)) ≡ 3 * t
-  corners-length = length_part w₀ triangles (3 * t) (omega arith)
+  corners_length : length (part w₀ triangles (3 * t)) ≡ 3 * t
+  corners_length = length_part w₀ triangles (3 * t) (omega arith)
 
   -- the corner that is read next, and the head of a vertex
   corner-read : (k : ℕ) → Linking w₀ w n t triangles heads links (suc k) → get_or w (triangles + k) 0 ≡ get_or (part w₀ triangles (3 * t)) k 0
@@ -109,7 +109,7 @@ module _ (w₀ w : List ℕ) (n t triangles heads links : ℕ) (b : Linkable w�
       ∙ sym (get_d_part w₀ triangles (3 * t) k 0 (omega (arith, l.within)))
 
   corner_below : (k : ℕ) → Linking w₀ w n t triangles heads links (suc k) → get_or w (triangles + k) 0 < n
-  corner_below k l = rw (corner-read k l) (below_at n (part w₀ triangles (3 * t)) k b.corners (omega (arith, l.within, corners-length)))
+  corner_below k l = rw (corner-read k l) (below_at n (part w₀ triangles (3 * t)) k b.corners (omega (arith, l.within, corners_length)))
 
   head_read : (k v : ℕ) → v < n → Linking w₀ w n t triangles heads links (suc k) → get_or w (heads + v) 0 ≡ first_from (suc k) v (drop (suc k) (part w₀ triangles (3 * t)))
   head_read k v h l =
@@ -131,28 +131,28 @@ module _ (w₀ w : List ℕ) (n t triangles heads links : ℕ) (b : Linkable w�
       let d = drop (suc k) ts in
       let hs = heads_from (suc k) d n in
       let f = first_from (suc k) v d in
-      let kl : k < length ts = omega (arith, l.within, corners-length) in
+      let kl : k < length ts = omega (arith, l.within, corners_length) in
       let vn : v < n = below_at n ts k b.corners kl in
       let lh : length hs ≡ n = length_heads (suc k) d n in
       let e : set w (links + k) f ≡ splice (splice w₀ heads hs) (links + k) (f ∷ links_from (suc k) d) =
-      ap (λ (x : List ℕ). set x (links + k) f) (l.is ∙ ap (λ (i : ℕ). splice (splice w₀ heads hs) i (links_from (suc k) d)) (add-suc links k)) ∙ sym (splice-cons (splice w₀ heads hs) (links + k) f (links_from (suc k) d)) in
+      ap (λ (x : List ℕ). set x (links + k) f) (l.is ∙ ap (λ (i : ℕ). splice (splice w₀ heads hs) i (links_from (suc k) d)) (add-suc links k)) ∙ sym (splice_cons (splice w₀ heads hs) (links + k) f (links_from (suc k) d)) in
       record {
         within = omega (arith, l.within);
         long = simp length-set l.long;
         is =
             rw (corner-read k l, head_read k v vn l, e, drop-cons ts k 0 kl)
             (set-splice-before (splice w₀ heads hs) (links + k) (f ∷ links_from (suc k) d) (heads + v) (suc k) (omega arith)
-            ∙ ap (λ (x : List ℕ). splice x (links + k) (f ∷ links_from (suc k) d)) (set-splice-in w₀ heads hs v (suc k) (omega arith) ∙ ap (λ (x : List ℕ). splice w₀ heads x) (heads_cons k v d n vn)));
+            ∙ ap (λ (x : List ℕ). splice x (links + k) (f ∷ links_from (suc k) d)) (set-splice_in w₀ heads hs v (suc k) (omega arith) ∙ ap (λ (x : List ℕ). splice w₀ heads x) (heads_cons k v d n vn)));
       }
 
-  pub next-below : (k : ℕ) → 0 < k → Linking w₀ w n t triangles heads links k → get_or w (triangles + (k - 1)) 0 < n
-  next-below zero h l = absurd (omega arith)
-  next-below (suc k) h l = let e : suc k - 1 ≡ k = omega arith in rw e (corner_below k l)
+  pub next_below : (k : ℕ) → 0 < k → Linking w₀ w n t triangles heads links k → get_or w (triangles + (k - 1)) 0 < n
+  next_below zero h l = absurd (omega arith)
+  next_below (suc k) h l = let e : suc k - 1 ≡ k = omega arith in rw e (corner_below k l)
 
-  pub scan-again : (k : ℕ) → 0 < k → Linking w₀ w n t triangles heads links k
+  pub scan_again : (k : ℕ) → 0 < k → Linking w₀ w n t triangles heads links k
       → Linking w₀ (set (set w (links + (k - 1)) (get_or w (heads + get_or w (triangles + (k - 1)) 0) 0)) (heads + get_or w (triangles + (k - 1)) 0) k) n t triangles heads links (k - 1)
-  scan-again zero h l = absurd (omega arith)
-  scan-again (suc k) h l = let e : suc k - 1 ≡ k = omega arith in rw e (scanned k l)
+  scan_again zero h l = absurd (omega arith)
+  scan_again (suc k) h l = let e : suc k - 1 ≡ k = omega arith in rw e (scanned k l)
 
 -- before the first turn and after the last; w is the buffer at entry
 pub scan_none : (w w₀ : List ℕ) (n t : ℕ) (at : Places) → LaidWords w n t at → w₀ ≡ splice w at.heads (replicate n 0)
@@ -163,14 +163,14 @@ scan_none w w₀ n t at b p =
     let lz : length z ≡ n = length-replicate n 0 in
     let lw : length w₀ ≡ length w = ap length p ∙ length-splice w at.heads z in
     let s : part w₀ at.triangles (3 * t) ≡ part w at.triangles (3 * t) =
-    ap (λ (x : List ℕ). part x at.triangles (3 * t)) p ∙ part-splice-before w at.heads z at.triangles (3 * t) (omega arith) in
+    ap (λ (x : List ℕ). part x at.triangles (3 * t)) p ∙ part_splice-before w at.heads z at.triangles (3 * t) (omega arith) in
     let ls : length (part w₀ at.triangles (3 * t)) ≡ 3 * t = length_part w₀ at.triangles (3 * t) (omega arith) in
     let d : drop (3 * t) (part w₀ at.triangles (3 * t)) ≡ [] = drop_of_length-le (part w₀ at.triangles (3 * t)) {i = 3 * t} (omega arith) in (
-      record { few = b.few; before-heads = omega arith; before-links = omega arith; fits = omega arith; corners = rw s b.corners },
+      record { few = b.few; before_heads = omega arith; before_links = omega arith; fits = omega arith; corners = rw s b.corners },
       record {
         within = omega arith;
         long = refl;
-        is = rw (d, splice-nil, heads_none (3 * t) n, p) (sym (splice-splice-same w at.heads z z refl));
+        is = rw (d, splice_nil, heads_none (3 * t) n, p) (sym (splice-splice-same w at.heads z z refl));
       },
     )
 
@@ -183,7 +183,7 @@ scan_done w w₀ l n t at k e b p s =
     let ts = part w at.triangles (3 * t) in
     let hs = heads_from 0 ts n in
     let q : part w₀ at.triangles (3 * t) ≡ ts =
-    ap (λ (x : List ℕ). part x at.triangles (3 * t)) p ∙ part-splice-before w at.heads z at.triangles (3 * t) (omega arith) in
+    ap (λ (x : List ℕ). part x at.triangles (3 * t)) p ∙ part_splice-before w at.heads z at.triangles (3 * t) (omega arith) in
     let r : splice w₀ at.heads hs ≡ splice w at.heads hs =
     ap (λ (x : List ℕ). splice x at.heads hs) p ∙ splice-splice-same w at.heads z hs (lz ∙ sym (length_heads 0 ts n)) in
     let m = rw (e, q, add-zero, r) at s.is in

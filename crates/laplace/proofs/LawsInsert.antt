@@ -14,7 +14,7 @@ use borrow.Author.Tests.{ltb-true, lt-ltb, le-ltb, eqb-true, eqb-false, eq-eqb}
 use Rattle.binary64.specs.Arith.{◌⊕◌}
 use Rattle.binary64.specs.Number.{pick}
 use Rattle.stretch.specs.Stretch.{part, splice}
-use Rattle.stretch.specs.StretchLaws.{length_part, get_d_part, part-zero, part-cons, part-add, splice-nil, splice-cons, splice-append, splice-part, set-splice-in, get_or-splice-before}
+use Rattle.stretch.specs.StretchLaws.{length_part, get_d_part, part_zero, part_cons, part_add, splice_nil, splice_cons, splice-append, splice_part, set-splice_in, get_or-splice-before}
 use Rattle.sparse.specs.Sparse.{Entry, entry, entries}
 use Rattle.laplace.specs.Assembly.{insert}
 use Rattle.laplace.specs.Placed.{values_in, columns_in}
@@ -43,9 +43,9 @@ module _ (w : List ℕ) (at k j p : ℕ) (h : at + k ≤ length w) (s : Passed w
       ap (λ (d : List ℕ). position_of j d) (here q) ∙ ap (λ (b : Bool). pick b (suc (position_of j (drop (suc p) (part w at k)))) 0) (lt-ltb (get_or w (at + p) 0) j l) in
       record { within = omega arith; is = rw add-one (omega (arith, s.is)) }
 
-  pub pass-stop : p < k → j ≤ get_or w (at + p) 0 → p ≡ position_of j (part w at k)
+  pub pass_stop : p < k → j ≤ get_or w (at + p) 0 → p ≡ position_of j (part w at k)
   unfolding position_of
-  pass-stop q l =
+  pass_stop q l =
       let e : position_of j (drop p (part w at k)) ≡ 0 =
       ap (λ (d : List ℕ). position_of j d) (here q) ∙ ap (λ (b : Bool). pick b (suc (position_of j (drop (suc p) (part w at k)))) 0) (le-ltb (get_or w (at + p) 0) j l) in
       omega (arith, s.is)
@@ -69,7 +69,7 @@ module _ {ℓ} {A : Type ℓ} where
   pub shift_none : (s : List A) (at n : ℕ) → Shifted s s at n n
   shift_none s at n =
       let e : n - n ≡ 0 = omega arith in
-      record { within = le_refl n; long = refl; is = rw (e, part-zero, splice-nil) }
+      record { within = le_refl n; long = refl; is = rw (e, part_zero, splice_nil) }
 
   shifted : (s₀ s : List A) (at n i : ℕ) (d : A) → at + n < length s₀ → Shifted s₀ s at n (suc i)
       → set s (at + suc i) (get_or s (at + i) d) ≡ splice s₀ (at + i + 1) (part s₀ (at + i) (n - i))
@@ -80,48 +80,48 @@ module _ {ℓ} {A : Type ℓ} where
       ap (λ (x : List A). get_or x (at + i) d) m.is ∙ get_or-splice-before s₀ (at + suc i + 1) new (at + i) d (omega arith) in
       let e : n - i ≡ suc (n - suc i) = omega (arith, m.within) in
       let f : part s₀ (at + i) (n - i) ≡ v ∷ new =
-      ap (λ (x : ℕ). part s₀ (at + i) x) e ∙ part-cons s₀ (at + i) (n - suc i) d (omega (arith, m.within)) ∙ ap (λ (x : ℕ). v ∷ part s₀ x (n - suc i)) (sym (add-suc at i)) in
+      ap (λ (x : ℕ). part s₀ (at + i) x) e ∙ part_cons s₀ (at + i) (n - suc i) d (omega (arith, m.within)) ∙ ap (λ (x : ℕ). v ∷ part s₀ x (n - suc i)) (sym (add-suc at i)) in
       let a : at + i + 1 ≡ at + suc i = omega arith in
       let b : at + suc i + 1 ≡ suc (at + suc i) = omega arith in
       ap (λ (x : A). set s (at + suc i) x) g
       ∙ ap (λ (x : List A). set x (at + suc i) v) (m.is ∙ ap (λ (x : ℕ). splice s₀ x new) b)
-      ∙ sym (splice-cons s₀ (at + suc i) v new)
+      ∙ sym (splice_cons s₀ (at + suc i) v new)
       ∙ ap (λ (x : ℕ). splice s₀ x (v ∷ new)) (sym a)
       ∙ ap (λ (x : List A). splice s₀ (at + i + 1) x) (sym f)
 
-  pub shift-again : (s₀ s : List A) (at n i : ℕ) (d : A) → at + n < length s₀ → 0 < i → Shifted s₀ s at n i
+  pub shift_again : (s₀ s : List A) (at n i : ℕ) (d : A) → at + n < length s₀ → 0 < i → Shifted s₀ s at n i
       → Shifted s₀ (set s (at + i) (get_or s (at + i - 1) d)) at n (i - 1)
-  shift-again s₀ s at n zero d h q m = absurd (omega arith)
-  shift-again s₀ s at n (suc i) d h q m =
+  shift_again s₀ s at n zero d h q m = absurd (omega arith)
+  shift_again s₀ s at n (suc i) d h q m =
       let e : suc i - 1 ≡ i = omega arith in
       let f : at + suc i - 1 ≡ at + i = omega arith in
       rw (e, f) record { within = omega (arith, m.within); long = simp length-set m.long; is = shifted s₀ s at n i d h m }
 
-  pub shift-done : (s₀ s : List A) (at n i : ℕ) → i ≡ 0 → Shifted s₀ s at n i → s ≡ splice s₀ (at + 1) (part s₀ at n)
-  shift-done s₀ s at n i e m =
+  pub shift_done : (s₀ s : List A) (at n i : ℕ) → i ≡ 0 → Shifted s₀ s at n i → s ≡ splice s₀ (at + 1) (part s₀ at n)
+  shift_done s₀ s at n i e m =
       let f : n - 0 ≡ n = omega arith in
       rw (e, add-zero, f) at m.is
 
   -- ---- a place made free at p among the k places from `at`, and one of them replaced
 
-  pub made-free : (s : List A) (at k p : ℕ) (v : A) → p ≤ k → at + k ≤ length s
+  pub made_free : (s : List A) (at k p : ℕ) (v : A) → p ≤ k → at + k ≤ length s
       → set (splice s (at + p + 1) (part s (at + p) (k - p))) (at + p) v ≡ splice s at (take p (part s at k) ++ (v ∷ drop p (part s at k)))
-  made-free s at k p v h f =
+  made_free s at k p v h f =
       let e : k ≡ p + (k - p) = omega arith in
       let l = part s at p in
       let r = part s (at + p) (k - p) in
       let ll : length l ≡ p = length_part s at p (omega arith) in
-      let b : part s at k ≡ l ++ r = ap (λ (x : ℕ). part s at x) e ∙ part-add s at p (k - p) in
+      let b : part s at k ≡ l ++ r = ap (λ (x : ℕ). part s at x) e ∙ part_add s at p (k - p) in
       let t : take p (part s at k) ≡ l = ap (λ (x : List A). take p x) b ∙ take_at l r p ll in
       let d : drop p (part s at k) ≡ r = ap (λ (x : List A). drop p x) b ∙ drop_at l r p ll in
       ap (λ (x : ℕ). set (splice s x r) (at + p) v) (add-one (at + p))
-      ∙ sym (splice-cons s (at + p) v r)
-      ∙ rw (t, d, splice-append s at l (v ∷ r), splice-part s at p, ll)
+      ∙ sym (splice_cons s (at + p) v r)
+      ∙ rw (t, d, splice-append s at l (v ∷ r), splice_part s at p, ll)
 
   pub replaced : (s : List A) (at k p : ℕ) (v : A) → p < k → at + k ≤ length s → set s (at + p) v ≡ splice s at (set (part s at k) p v)
   replaced s at k p v h f =
       let e : length (part s at k) ≡ k = length_part s at k f in
-      ap (λ (x : List A). set x (at + p) v) (sym (splice-part s at k)) ∙ set-splice-in s at (part s at k) p v (omega arith)
+      ap (λ (x : List A). set x (at + p) v) (sym (splice_part s at k)) ∙ set-splice_in s at (part s at k) p v (omega arith)
 
 -- ---- columns and values of entries
 
@@ -216,27 +216,27 @@ stands_below p k r x s t = ltb-true p k (both_true (ltb p k) x (sym t ∙ s)).0
 
 module _ (f : List Float) (w : List ℕ) (a b k j : ℕ) (v : Float) (ha : a + k ≤ length f) (hb : b + k ≤ length w) (p : ℕ) (e : p ≡ position_of j (part w b k))
     (r : Bool) (s : r ≡ (ltb p k && eqb (get_or w (b + p) 0) j)) where
-  same-long : length (part w b k) ≡ length (part f a k)
-  same-long = length_part w b k hb ∙ sym (length_part f a k ha)
+  same_long : length (part w b k) ≡ length (part f a k)
+  same_long = length_part w b k hb ∙ sym (length_part f a k ha)
 
-  pub written-repeat : r ≡ true → Written f w (set f (a + p) (get_or f (a + p) nan ⊕ v)) w a b k (insert j v (entries_at f w a b k))
-  written-repeat y =
+  pub written_repeat : r ≡ true → Written f w (set f (a + p) (get_or f (a + p) nan ⊕ v)) w a b k (insert j v (entries_at f w a b k))
+  written_repeat y =
       let cs = part w b k in
       let vs = part f a k in
       let lc : length cs ≡ k = length_part w b k hb in
       let q = both_true (ltb p k) (eqb (get_or w (b + p) 0) j) (sym y ∙ s) in
       let h : p < k = ltb-true p k q.0 in
       let g : get_or cs p 0 ≡ j = get_d_part w b k p 0 h ∙ eqb-true (get_or w (b + p) 0) j q.1 in
-      let i : Repeated j v cs vs p (insert j v (entries cs vs)) = rw e (insert_repeat j v cs vs same-long (omega arith) (rw e at g)) in
+      let i : Repeated j v cs vs p (insert j v (entries cs vs)) = rw e (insert_repeat j v cs vs same_long (omega arith) (rw e at g)) in
       let n : get_or vs p nan ≡ get_or f (a + p) nan = get_d_part f a k p nan h in
       record {
         count = sym lc ∙ ap length (sym i.columns) ∙ length_columns (insert j v (entries cs vs));
         values = replaced f a k p (get_or f (a + p) nan ⊕ v) h ha ∙ ap (λ (x : List Float). splice f a x) (ap (λ (y : Float). set vs p (y ⊕ v)) (sym n) ∙ sym i.values);
-        columns = sym (splice-part w b k) ∙ ap (λ (x : List ℕ). splice w b x) (sym i.columns);
+        columns = sym (splice_part w b k) ∙ ap (λ (x : List ℕ). splice w b x) (sym i.columns);
       }
 
   fresh : r ≡ false → Fresh j v (part w b k) (part f a k) p (insert j v (entries_at f w a b k))
-  fresh y = rw e (insert-fresh j v (part w b k) (part f a k) same-long (λ (h : position_of j (part w b k) < length (part w b k)). λ (g : get_or (part w b k) (position_of j (part w b k)) 0 ≡ j). no h g))
+  fresh y = rw e (insert-fresh j v (part w b k) (part f a k) same_long (λ (h : position_of j (part w b k) < length (part w b k)). λ (g : get_or (part w b k) (position_of j (part w b k)) 0 ≡ j). no h g))
     where
       no : position_of j (part w b k) < length (part w b k) → get_or (part w b k) (position_of j (part w b k)) 0 ≡ j → ⊥
       no h g =
@@ -257,8 +257,8 @@ module _ (f : List Float) (w : List ℕ) (a b k j : ℕ) (v : Float) (ha : a + k
       omega (arith, length_columns es)
 
   -- so there is room to move up by one
-  pub fresh-room : r ≡ false → p ≤ k → Room f w a b k (insert j v (entries_at f w a b k)) → (a + k < length f) × (b + k < length w)
-  fresh-room y h m = omega (arith, fresh-length y h, m)
+  pub fresh_room : r ≡ false → p ≤ k → Room f w a b k (insert j v (entries_at f w a b k)) → (a + k < length f) × (b + k < length w)
+  fresh_room y h m = omega (arith, fresh-length y h, m)
 
   pub written-fresh : r ≡ false → p ≤ k
       → Written f w (set (splice f (a + p + 1) (part f (a + p) (k - p))) (a + p) v) (set (splice w (b + p + 1) (part w (b + p) (k - p))) (b + p) j) a b (k + 1) (insert j v (entries_at f w a b k))
@@ -266,6 +266,6 @@ module _ (f : List Float) (w : List ℕ) (a b k j : ℕ) (v : Float) (ha : a + k
       let i = fresh y in
       record {
         count = add-one k ∙ sym (fresh-length y h);
-        values = made-free f a k p v h ha ∙ ap (λ (x : List Float). splice f a x) (sym i.values);
-        columns = made-free w b k p j h hb ∙ ap (λ (x : List ℕ). splice w b x) (sym i.columns);
+        values = made_free f a k p v h ha ∙ ap (λ (x : List Float). splice f a x) (sym i.values);
+        columns = made_free w b k p j h hb ∙ ap (λ (x : List ℕ). splice w b x) (sym i.columns);
       }

@@ -10,7 +10,7 @@ use lib.ListN.{length, get_or, set, length-set}
 use lib.Seq.{set-get_or}
 use Rattle.binary64.specs.Constants.{plus_zero}
 use Rattle.stretch.specs.Stretch.{part, splice}
-use Rattle.stretch.specs.StretchLaws.{length_part, length-splice, part-zero, splice-nil, splice-one, splice-append, splice-snoc, set-splice-before, part-splice-before, part-splice-after, get_or-splice-before, get_or-splice-at}
+use Rattle.stretch.specs.StretchLaws.{length_part, length-splice, part_zero, splice_nil, splice-one, splice-append, splice_snoc, set-splice-before, part_splice-before, part_splice-after, get_or-splice-before, get_or-splice-at}
 use Rattle.sparse.specs.Sparse.{Entry, entries}
 use Rattle.laplace.specs.declared.Places.{Places}
 use Rattle.laplace.specs.Assembly.{pushes, row, rows}
@@ -19,8 +19,8 @@ use Rattle.laplace.specs.Placed.{values_in, columns_in, values_of, columns_of, s
 use Rattle.laplace.specs.Row.{Written, vertices_in, corners_in, tags_in, Tidy, Building}
 use Rattle.laplace.specs.Whole.{pushes_in, row_for, rows_for, Appends, Appended, Ready, RowPut, RowsPut}
 use Rattle.laplace.proofs.LawsInsert.{length_values, length_columns}
-use Rattle.laplace.proofs.LawsRow.{tidy_none, building-on}
-use Rattle.laplace.proofs.LawsPlaced.{length-values_of, length-columns_of, length_starts, starts_head, length-rows, values_snoc, columns_snoc, starts_snoc, passed-through}
+use Rattle.laplace.proofs.LawsRow.{tidy_none, building_on}
+use Rattle.laplace.proofs.LawsPlaced.{length-values_of, length-columns_of, length_starts, starts_head, length-rows, values_snoc, columns_snoc, starts_snoc, passed_through}
 
 -- ---- one row
 
@@ -28,28 +28,28 @@ tidy_row : (n : ℕ) (tags : List ℕ) (flat : Float) (vs : List Float) (ts : Li
 tidy_row n tags flat vs ts r h b = record { rising = row_rising tags (pushes flat vs ts) r; below = row_below n tags (pushes flat vs ts) r h (pushes_below n flat vs ts b) }
 
 module _ (f : List Float) (w : List ℕ) (n t : ℕ) (at : Places) (y : Ready f w n t at) where
-  pub row-starts : Building f w n t at 0
+  pub row_starts : Building f w n t at 0
   unfolding entries
-  row-starts = record { floats-laid = y.floats-laid; words-laid = y.words-laid; within = omega arith; tidy = rw (part-zero w at.rowcols) (tidy_none n) }
+  row_starts = record { floats_laid = y.floats_laid; words_laid = y.words_laid; within = omega arith; tidy = rw (part_zero w at.rowcols) (tidy_none n) }
 
   module _ (flat : Float) (r count : ℕ) (h : r < n) (m : count + length (row_for flat f w n t at r) ≤ 9 * t + n) (f₁ : List Float) (w₁ : List ℕ) (k : ℕ)
       (a : Written f w f₁ w₁ at.row at.rowcols k (row_for flat f w n t at r)) where
-    pub row-appends : Appends f₁ w₁ n t at k count
-    row-appends =
-        let b = building-on f w n t at 0 row-starts f₁ w₁ k (row_for flat f w n t at r) a (tidy_row n (tags_in w n at) flat (vertices_in f n at) (corners_in w t at) r h y.words-laid.corners) in
-        record { floats-laid = b.floats-laid; words-laid = b.words-laid; within = b.within; room = omega (arith, a.count) }
+    pub row_appends : Appends f₁ w₁ n t at k count
+    row_appends =
+        let b = building_on f w n t at 0 row_starts f₁ w₁ k (row_for flat f w n t at r) a (tidy_row n (tags_in w n at) flat (vertices_in f n at) (corners_in w t at) r h y.words_laid.corners) in
+        record { floats_laid = b.floats_laid; words_laid = b.words_laid; within = b.within; room = omega (arith, a.count) }
 
     pub row_put : (f₂ : List Float) (w₂ : List ℕ) → Appended f₁ w₁ f₂ w₂ at k count
         → RowPut f w f₂ (set w₂ (at.starts + r + 1) (count + k)) at r count (count + k) (row_for flat f w n t at r)
     row_put f₂ w₂ p =
         let es = row_for flat f w n t at r in
-        let lk : k ≤ n = row-appends.within in
+        let lk : k ≤ n = row_appends.within in
         let lv : length (values_in es) ≡ k = length_values es ∙ sym a.count in
         let lc : length (columns_in es) ≡ k = length_columns es ∙ sym a.count in
         let v : f₂ ≡ splice f (at.values + count) (values_in es) =
-        rw a.values at p.values ∙ passed-through f at.row n k (at.values + count) (values_in es) plus_zero lv lk (omega (arith, y.floats-laid)) y.values-clear (inl (omega (arith, y.floats-laid))) in
+        rw a.values at p.values ∙ passed_through f at.row n k (at.values + count) (values_in es) plus_zero lv lk (omega (arith, y.floats_laid)) y.values_clear (inl (omega (arith, y.floats_laid))) in
         let c : w₂ ≡ splice w (at.cols + count) (columns_in es) =
-        rw a.columns at p.columns ∙ passed-through w at.rowcols n k (at.cols + count) (columns_in es) 0 lc lk (omega (arith, y.words-laid)) y.columns-clear (inr (omega (arith, y.words-laid, a.count))) in
+        rw a.columns at p.columns ∙ passed_through w at.rowcols n k (at.cols + count) (columns_in es) 0 lc lk (omega (arith, y.words_laid)) y.columns_clear (inr (omega (arith, y.words_laid, a.count))) in
         record { total = ap (λ (x : ℕ). count + x) a.count; values = v; columns = rw (c, ← a.count) }
 
 -- ---- all rows
@@ -58,15 +58,15 @@ pub row_long : (f : List Float) (w : List ℕ) (f' : List Float) (w' : List ℕ)
 row_long f w f' w' at r count end es p = ap length p.columns ∙ simp length-set (length-splice w (at.cols + count) (columns_in es))
 
 module _ (f : List Float) (w : List ℕ) (f' : List Float) (w' : List ℕ) (at : Places) (k : ℕ) (rs : List (List Entry)) (p : RowsPut f w f' w' at k rs) where
-  pub rows-floats-long : length f' ≡ length f
-  rows-floats-long = ap length p.values ∙ length-splice f at.values (values_of rs)
+  pub rows_floats_long : length f' ≡ length f
+  rows_floats_long = ap length p.values ∙ length-splice f at.values (values_of rs)
 
-  pub rows-words-long : length w' ≡ length w
-  rows-words-long = ap length p.columns ∙ length-splice (splice w at.starts (starts_from 0 rs)) at.cols (columns_of rs) ∙ length-splice w at.starts (starts_from 0 rs)
+  pub rows_words_long : length w' ≡ length w
+  rows_words_long = ap length p.columns ∙ length-splice (splice w at.starts (starts_from 0 rs)) at.cols (columns_of rs) ∙ length-splice w at.starts (starts_from 0 rs)
 
 -- what the rows are built from is as it was
 pub record Kept (f : List Float) (w : List ℕ) (f' : List Float) (w' : List ℕ) (n t : ℕ) (at : Places) : Type 0 where
-  pub floats-long : length f' ≡ length f
+  pub floats_long : length f' ≡ length f
   pub words_long : length w' ≡ length w
   pub vertices : vertices_in f' n at ≡ vertices_in f n at
   pub row : part f' at.row n ≡ part f at.row n
@@ -78,24 +78,24 @@ pub record Kept (f : List Float) (w : List ℕ) (f' : List Float) (w' : List ℕ
   pub start : get_or w' at.starts 0 ≡ 0
 
 module _ (f : List Float) (w : List ℕ) (n t : ℕ) (at : Places) (y : Ready f w n t at) where
-  pub ready-kept : (f' : List Float) (w' : List ℕ) → Kept f w f' w' n t at → Ready f' w' n t at
-  ready-kept f' w' k =
+  pub ready_kept : (f' : List Float) (w' : List ℕ) → Kept f w f' w' n t at → Ready f' w' n t at
+  ready_kept f' w' k =
       record {
-        floats-laid = record { vertices = y.floats-laid.vertices; right = y.floats-laid.right; row = y.floats-laid.row; values = rw k.floats-long y.floats-laid.values };
-        words-laid = record {
-          few = y.words-laid.few;
-          triangles = y.words-laid.triangles;
-          tags = y.words-laid.tags;
-          starts = y.words-laid.starts;
-          cols = y.words-laid.cols;
-          heads = y.words-laid.heads;
-          links = y.words-laid.links;
-          row = rw k.words_long y.words-laid.row;
-          corners = rw k.corners y.words-laid.corners;
+        floats_laid = record { vertices = y.floats_laid.vertices; right = y.floats_laid.right; row = y.floats_laid.row; values = rw k.floats_long y.floats_laid.values };
+        words_laid = record {
+          few = y.words_laid.few;
+          triangles = y.words_laid.triangles;
+          tags = y.words_laid.tags;
+          starts = y.words_laid.starts;
+          cols = y.words_laid.cols;
+          heads = y.words_laid.heads;
+          links = y.words_laid.links;
+          row = rw k.words_long y.words_laid.row;
+          corners = rw k.corners y.words_laid.corners;
         };
         linked = record { heads = rw (k.heads, k.corners) y.linked.heads; links = rw (k.links, k.corners) y.linked.links };
-        values-clear = k.row ∙ y.values-clear;
-        columns-clear = k.rowcols ∙ y.columns-clear;
+        values_clear = k.row ∙ y.values_clear;
+        columns_clear = k.rowcols ∙ y.columns_clear;
         start = k.start;
       }
 
@@ -103,7 +103,7 @@ module _ (f : List Float) (w : List ℕ) (n t : ℕ) (at : Places) (flat : Float
   -- the first i rows have few entries
   rows_few : (i : ℕ) → i ≤ n → count (rows_for flat f w n t at i) ≤ 9 * t + n
   rows_few i h =
-      let l : length (corners_in w t at) ≡ 3 * t = length_part w at.triangles (3 * t) (omega (arith, y.words-laid)) in
+      let l : length (corners_in w t at) ≡ 3 * t = length_part w at.triangles (3 * t) (omega (arith, y.words_laid)) in
       omega (arith, few_entries (tags_in w n at) flat (vertices_in f n at) (corners_in w t at) i)
 
   count_next : (i : ℕ) → count (rows_for flat f w n t at (suc i)) ≡ count (rows_for flat f w n t at i) + length (row_for flat f w n t at i)
@@ -120,20 +120,20 @@ module _ (f : List Float) (w : List ℕ) (n t : ℕ) (at : Places) (flat : Float
       let few : count rs ≤ 9 * t + n = rows_few i h in
       let lc : length c ≡ count rs = length-columns_of rs in
       let ls : length s ≡ suc i = length_starts 0 rs ∙ ap suc (length-rows (tags_in w n at) (pushes_in flat f w n t at) i) in
-      let fl = y.floats-laid in
-      let wl = y.words-laid in
+      let fl = y.floats_laid in
+      let wl = y.words_laid in
       let before : (b m : ℕ) → b + m ≤ at.starts → part w' b m ≡ part w b m =
       λ (b m : ℕ) (q : b + m ≤ at.starts).
-      ap (λ (x : List ℕ). part x b m) p.columns ∙ part-splice-before u at.cols c b m (omega arith) ∙ part-splice-before w at.starts s b m q in
+      ap (λ (x : List ℕ). part x b m) p.columns ∙ part_splice-before u at.cols c b m (omega arith) ∙ part_splice-before w at.starts s b m q in
       let after : (b m : ℕ) → at.heads ≤ b → part w' b m ≡ part w b m =
       λ (b m : ℕ) (q : at.heads ≤ b).
-      ap (λ (x : List ℕ). part x b m) p.columns ∙ part-splice-after u at.cols c b m (omega arith) ∙ part-splice-after w at.starts s b m (omega arith) in
+      ap (λ (x : List ℕ). part x b m) p.columns ∙ part_splice-after u at.cols c b m (omega arith) ∙ part_splice-after w at.starts s b m (omega arith) in
       let first : at.starts + 0 ≡ at.starts = omega arith in
       record {
-        floats-long = ap length p.values ∙ length-splice f at.values v;
+        floats_long = ap length p.values ∙ length-splice f at.values v;
         words_long = ap length p.columns ∙ length-splice u at.cols c ∙ length-splice w at.starts s;
-        vertices = ap (λ (x : List Float). part x at.vertices (2 * n)) p.values ∙ part-splice-before f at.values v at.vertices (2 * n) (omega arith);
-        row = ap (λ (x : List Float). part x at.row n) p.values ∙ part-splice-before f at.values v at.row n (omega arith);
+        vertices = ap (λ (x : List Float). part x at.vertices (2 * n)) p.values ∙ part_splice-before f at.values v at.vertices (2 * n) (omega arith);
+        row = ap (λ (x : List Float). part x at.row n) p.values ∙ part_splice-before f at.values v at.row n (omega arith);
         corners = before at.triangles (3 * t) (omega arith);
         tags = before at.tags n (omega arith);
         heads = after at.heads n (omega arith);
@@ -149,8 +149,8 @@ module _ (f : List Float) (w : List ℕ) (n t : ℕ) (at : Places) (flat : Float
   rows_none =
       record {
         total = refl;
-        values = sym (splice-nil f at.values);
-        columns = rw (splice-nil, splice-one w at.starts 0) (sym (set-get_or w at.starts 0) ∙ ap (λ (x : ℕ). set w at.starts x) y.start);
+        values = sym (splice_nil f at.values);
+        columns = rw (splice_nil, splice-one w at.starts 0) (sym (set-get_or w at.starts 0) ∙ ap (λ (x : ℕ). set w at.starts x) y.start);
       }
 
   module _ (i : ℕ) (h : i < n) (f₁ : List Float) (w₁ : List ℕ) (k : ℕ) (p : RowsPut f w f₁ w₁ at k (rows_for flat f w n t at i)) where
@@ -160,12 +160,12 @@ module _ (f : List Float) (w : List ℕ) (n t : ℕ) (at : Places) (flat : Float
     same_row : row_for flat f₁ w₁ n t at i ≡ row_for flat f w n t at i
     same_row = rw (kept.vertices, kept.corners, kept.tags)
 
-    pub row-ready : Ready f₁ w₁ n t at × (i < n) × (k + length (row_for flat f₁ w₁ n t at i) ≤ 9 * t + n)
-    row-ready = (ready-kept f w n t at y f₁ w₁ kept, h, rw same_row (omega (arith, p.total, count_next i, rows_few (suc i) (omega arith))))
+    pub row_ready : Ready f₁ w₁ n t at × (i < n) × (k + length (row_for flat f₁ w₁ n t at i) ≤ 9 * t + n)
+    row_ready = (ready_kept f w n t at y f₁ w₁ kept, h, rw same_row (omega (arith, p.total, count_next i, rows_few (suc i) (omega arith))))
 
-    pub rows-again : (f₂ : List Float) (w₂ : List ℕ) (e : ℕ) → RowPut f₁ w₁ f₂ w₂ at i k e (row_for flat f₁ w₁ n t at i) → RowsPut f w f₂ w₂ at e (rows_for flat f w n t at (i + 1))
+    pub rows_again : (f₂ : List Float) (w₂ : List ℕ) (e : ℕ) → RowPut f₁ w₁ f₂ w₂ at i k e (row_for flat f₁ w₁ n t at i) → RowsPut f w f₂ w₂ at e (rows_for flat f w n t at (i + 1))
     unfolding rows
-    rows-again f₂ w₂ e q =
+    rows_again f₂ w₂ e q =
         let rs = rows_for flat f w n t at i in
         let es = row_for flat f w n t at i in
         let v = values_of rs in
@@ -175,7 +175,7 @@ module _ (f : List Float) (w : List ℕ) (n t : ℕ) (at : Places) (flat : Float
         let lv : length v ≡ k = length-values_of rs ∙ sym p.total in
         let lc : length c ≡ k = length-columns_of rs ∙ sym p.total in
         let ls : length s ≡ suc i = length_starts 0 rs ∙ ap suc (length-rows (tags_in w n at) (pushes_in flat f w n t at) i) in
-        let wl = y.words-laid in
+        let wl = y.words_laid in
         let q' : RowPut f₁ w₁ f₂ w₂ at i k e es = rw same_row at q in
         let xe : k + length es ≡ x = omega (arith, p.total) in
         let se : at.starts + i + 1 ≡ at.starts + length s = omega arith in
@@ -186,7 +186,7 @@ module _ (f : List Float) (w : List ℕ) (n t : ℕ) (at : Places) (flat : Float
         ap (λ (l : List ℕ). splice l (at.cols + k) (columns_in es)) p.columns ∙ ap (λ (m : ℕ). splice (splice (splice w at.starts s) at.cols c) (at.cols + m) (columns_in es)) (sym lc)
         ∙ sym (splice-append (splice w at.starts s) at.cols c (columns_in es)) in
         let ws : set (splice w at.starts s) (at.starts + i + 1) (k + length es) ≡ splice w at.starts (s ++ (x ∷ [])) =
-        ap (λ (m : ℕ). set (splice w at.starts s) m (k + length es)) se ∙ ap (λ (m : ℕ). set (splice w at.starts s) (at.starts + length s) m) xe ∙ sym (splice-snoc w at.starts s x) in
+        ap (λ (m : ℕ). set (splice w at.starts s) m (k + length es)) se ∙ ap (λ (m : ℕ). set (splice w at.starts s) (at.starts + length s) m) xe ∙ sym (splice_snoc w at.starts s x) in
         rw (add-one i) record {
           total = q'.total ∙ ap (λ (m : ℕ). m + length es) p.total ∙ sym (count_next i);
           values = fv ∙ ap (λ (l : List Float). splice f at.values l) (sym (values_snoc rs es));

@@ -7,7 +7,7 @@ use mathlib.Core.Logic.{◌⊎◌, ⊎_elim}
 use mathlib.Core.List.{List, [], ◌∷◌, ◌++◌, append_assoc, append-nil}
 use lib.ListN.{length, get_or, replicate, length-append, length-replicate, replicate-append-replicate}
 use Rattle.stretch.specs.Stretch.{part, splice}
-use Rattle.stretch.specs.StretchLaws.{part-part, part-replicate, part-splice-same, splice-part, splice-comm, splice-splice-same, splice-splice-in, splice-front-all}
+use Rattle.stretch.specs.StretchLaws.{part_part, part_replicate, part_splice-same, splice_part, splice_comm, splice-splice-same, splice-splice_in, splice-front-all}
 use Rattle.sparse.specs.Sparse.{Entry}
 use Rattle.laplace.specs.Assembly.{Push, row, rows}
 use Rattle.laplace.specs.Matrix.{count}
@@ -63,35 +63,35 @@ module _ {ℓ} {A : Type ℓ} where
   -- ---- a stretch written to a clear buffer, copied from there, and cleared
 
   apart : (l : List A) (a b : ℕ) (u v : List A) → (a + length u ≤ b) ⊎ (b + length v ≤ a) → splice (splice l a u) b v ≡ splice (splice l b v) a u
-  apart l a b u v = ⊎_elim (λ (h : a + length u ≤ b). splice-comm l a b u v h) (λ (h : b + length v ≤ a). sym (splice-comm l b a v u h))
+  apart l a b u v = ⊎_elim (λ (h : a + length u ≤ b). splice_comm l a b u v h) (λ (h : b + length v ≤ a). sym (splice_comm l b a v u h))
 
-  pub clear-again : (l : List A) (at n k : ℕ) (z : A) → k ≤ n → part l at n ≡ replicate n z → splice l at (replicate k z) ≡ l
-  clear-again l at n k z h e =
+  pub clear_again : (l : List A) (at n k : ℕ) (z : A) → k ≤ n → part l at n ≡ replicate n z → splice l at (replicate k z) ≡ l
+  clear_again l at n k z h e =
       let p : replicate k z ≡ part l at k =
-      sym (part-replicate n z 0 k (omega arith)) ∙ ap (λ (x : List A). part x 0 k) (sym e) ∙ part-part l at n 0 k (omega arith) ∙ ap (λ (i : ℕ). part l i k) (add-zero at) in
-      rw p (splice-part l at k)
+      sym (part_replicate n z 0 k (omega arith)) ∙ ap (λ (x : List A). part x 0 k) (sym e) ∙ part_part l at n 0 k (omega arith) ∙ ap (λ (i : ℕ). part l i k) (add-zero at) in
+      rw p (splice_part l at k)
 
-  pub passed-through : (l : List A) (at n k b : ℕ) (v : List A) (z : A) → length v ≡ k → k ≤ n → at + n ≤ length l → part l at n ≡ replicate n z → (at + k ≤ b) ⊎ (b + k ≤ at)
+  pub passed_through : (l : List A) (at n k b : ℕ) (v : List A) (z : A) → length v ≡ k → k ≤ n → at + n ≤ length l → part l at n ≡ replicate n z → (at + k ≤ b) ⊎ (b + k ≤ at)
       → splice (splice (splice l at v) b (part (splice l at v) at k)) at (replicate k z) ≡ splice l b v
-  passed-through l at n k b v z e h f c d =
+  passed_through l at n k b v z e h f c d =
       let lz : length (replicate k z) ≡ k = length-replicate k z in
-      let p : part (splice l at v) at k ≡ v = part-splice-same l at v k e (omega arith) in
+      let p : part (splice l at v) at k ≡ v = part_splice-same l at v k e (omega arith) in
       let dv : (at + length v ≤ b) ⊎ (b + length v ≤ at) = rw e d in
       let dz : (at + length (replicate k z) ≤ b) ⊎ (b + length v ≤ at) = rw (lz, e) d in
-      rw (p, apart l at b v v dv, splice-splice-same (splice l b v) at v (replicate k z) (e ∙ sym lz), ← (apart l at b (replicate k z) v dz), clear-again l at n k z h c)
+      rw (p, apart l at b v v dv, splice-splice-same (splice l b v) at v (replicate k z) (e ∙ sym lz), ← (apart l at b (replicate k z) v dz), clear_again l at n k z h c)
 
   -- ---- a list written to a clear stretch
 
-  pub padded-in : (l : List A) (at m : ℕ) (z : A) (v : List A) → length v ≤ m → splice (splice l at (replicate m z)) at v ≡ splice l at (padded m z v)
+  pub padded_in : (l : List A) (at m : ℕ) (z : A) (v : List A) → length v ≤ m → splice (splice l at (replicate m z)) at v ≡ splice l at (padded m z v)
   unfolding padded
-  padded-in l at m z v h =
+  padded_in l at m z v h =
       let k = length v in
       let e : k + (m - k) ≡ m = omega arith in
       let r : replicate m z ≡ replicate k z ++ replicate (m - k) z = ap (λ (x : ℕ). replicate x z) (sym e) ∙ sym (replicate-append-replicate k (m - k) z) in
       let s : splice (replicate m z) 0 v ≡ v ++ replicate (m - k) z =
       ap (λ (x : List A). splice x 0 v) r ∙ splice-front-all (replicate k z) (replicate (m - k) z) v (sym (length-replicate k z)) in
       let lz : length (replicate m z) ≡ m = length-replicate m z in
-      ap (λ (x : ℕ). splice (splice l at (replicate m z)) x v) (sym (add-zero at)) ∙ splice-splice-in l at (replicate m z) 0 v (omega arith) ∙ ap (λ (x : List A). splice l at x) s
+      ap (λ (x : ℕ). splice (splice l at (replicate m z)) x v) (sym (add-zero at)) ∙ splice-splice_in l at (replicate m z) 0 v (omega arith) ∙ ap (λ (x : List A). splice l at x) s
 
   pub length-padded : (m : ℕ) (z : A) (v : List A) → length v ≤ m → length (padded m z v) ≡ m
   unfolding padded

@@ -15,8 +15,8 @@ use Rattle.binary64.specs.Constants.{plus_zero}
 use Rattle.binary64.specs.Number.{pick}
 use Rattle.binary64.specs.NumberLaws.{both}
 use Rattle.stretch.specs.Stretch.{part, splice, Wrote}
-use Rattle.stretch.specs.StretchLaws.{length_part, get_d_part, part-zero, part-suc, splice-part, splice-splice-same, got, kept-before, as_long, get_or-splice-after}
-use Rattle.stretch.specs.LoopLaws.{write-none, write_step}
+use Rattle.stretch.specs.StretchLaws.{length_part, get_d_part, part_zero, part_suc, splice_part, splice-splice-same, got, kept_before, as_long, get_or-splice-after}
+use Rattle.stretch.specs.LoopLaws.{write_none, write_step}
 use Rattle.laplace.specs.declared.Places.{Places}
 use Rattle.laplace.specs.declared.element.Side.{Side}
 use Rattle.laplace.specs.declared.element.Stiff.{Stiff}
@@ -39,17 +39,17 @@ wrote_then {l} {l'} {l''} {a} {b} {at} u v =
 -- ---- one push
 
 module _ (f : List Float) (w : List ℕ) (n right tags : ℕ) (c : Couples f w n right tags) where
-  pub wrote-same : Wrote f f right n (part f right n)
-  wrote-same = record { is = sym (splice-part f right n); long = length_part f right n c.floats-fit; fits = c.floats-fit }
+  pub wrote_same : Wrote f f right n (part f right n)
+  wrote_same = record { is = sym (splice_part f right n); long = length_part f right n c.floats-fit; fits = c.floats-fit }
 
   tag_at : (x : ℕ) → x < n → tag_of (part w tags n) x ≡ get_or w (tags + x) 0
   unfolding tag_of
   tag_at x h = get_d_part w tags n x 0 h
 
   -- a free vertex x lowered by a held vertex h
-  wrote-lowered : (x h : ℕ) (v : Float) → x < n → h < n
+  wrote_lowered : (x h : ℕ) (v : Float) → x < n → h < n
       → Wrote f (set f (right + x) (get_or f (right + x) nan ⊖ v ⊗ held_value (get_or w (tags + h) 0))) right n (lowered held_value (part w tags n) x h v (part f right n))
-  wrote-lowered x h v hx hh =
+  wrote_lowered x h v hx hh =
       let y = get_or f (right + x) nan ⊖ v ⊗ held_value (get_or w (tags + h) 0) in
       let e : get_or (part f right n) x nan ⊖ v ⊗ held_value (tag_of (part w tags n) h) ≡ y = rw (get_d_part f right n x nan hx, tag_at h hh) in
       record {
@@ -60,51 +60,51 @@ module _ (f : List Float) (w : List ℕ) (n right tags : ℕ) (c : Couples f w n
 
   module _ (i j : ℕ) (v : Float) (hi : i < n) (hj : j < n) where
     -- the other half of a pair
-    pub coupled-above : j < i → Wrote f f right n (coupled_by (part w tags n) (push i j v) (part f right n))
+    pub coupled_above : j < i → Wrote f f right n (coupled_by (part w tags n) (push i j v) (part f right n))
     unfolding coupled_by
-    coupled-above h = rw (lt-leb i j h) wrote-same
+    coupled_above h = rw (lt-leb i j h) wrote_same
 
     module _ (p q : ℕ) (ep : p ≡ i) (eq : q ≡ j) (h : i ≤ j) where
-      free-i : get_or w (tags + p) 0 ≡ 0 → free (part w tags n) i ≡ true
+      free_i : get_or w (tags + p) 0 ≡ 0 → free (part w tags n) i ≡ true
       unfolding free
-      free-i e = rw (tag_at i hi, rw ep at e)
+      free_i e = rw (tag_at i hi, rw ep at e)
 
-      free-j : get_or w (tags + q) 0 ≡ 0 → free (part w tags n) j ≡ true
+      free_j : get_or w (tags + q) 0 ≡ 0 → free (part w tags n) j ≡ true
       unfolding free
-      free-j e = rw (tag_at j hj, rw eq at e)
+      free_j e = rw (tag_at j hj, rw eq at e)
 
-      held-i : (get_or w (tags + p) 0 ≡ 0 → ⊥) → free (part w tags n) i ≡ false
+      held_i : (get_or w (tags + p) 0 ≡ 0 → ⊥) → free (part w tags n) i ≡ false
       unfolding free
-      held-i e = rw (tag_at i hi) (ne_eqb (get_or w (tags + i) 0) 0 (rw ep at e))
+      held_i e = rw (tag_at i hi) (ne_eqb (get_or w (tags + i) 0) 0 (rw ep at e))
 
-      held-j : (get_or w (tags + q) 0 ≡ 0 → ⊥) → free (part w tags n) j ≡ false
+      held_j : (get_or w (tags + q) 0 ≡ 0 → ⊥) → free (part w tags n) j ≡ false
       unfolding free
-      held-j e = rw (tag_at j hj) (ne_eqb (get_or w (tags + j) 0) 0 (rw eq at e))
+      held_j e = rw (tag_at j hj) (ne_eqb (get_or w (tags + j) 0) 0 (rw eq at e))
 
       pub coupled-free : get_or w (tags + p) 0 ≡ 0 → get_or w (tags + q) 0 ≡ 0 → Wrote f f right n (coupled_by (part w tags n) (push i j v) (part f right n))
       unfolding coupled_by
-      coupled-free a b = rw (le-leb i j h, free-i a, free-j b) wrote-same
+      coupled-free a b = rw (le-leb i j h, free_i a, free_j b) wrote_same
 
       pub coupled-held : (get_or w (tags + p) 0 ≡ 0 → ⊥) → (get_or w (tags + q) 0 ≡ 0 → ⊥) → Wrote f f right n (coupled_by (part w tags n) (push i j v) (part f right n))
       unfolding coupled_by
-      coupled-held a b = rw (le-leb i j h, held-i a, held-j b) wrote-same
+      coupled-held a b = rw (le-leb i j h, held_i a, held_j b) wrote_same
 
       pub coupled-row : get_or w (tags + p) 0 ≡ 0 → (get_or w (tags + q) 0 ≡ 0 → ⊥) → (f' : List Float)
           → f' ≡ set f (right + p) (get_or f (right + p) nan ⊖ v ⊗ held_value (get_or w (tags + q) 0))
           → Wrote f f' right n (coupled_by (part w tags n) (push i j v) (part f right n))
       unfolding coupled_by
-      coupled-row a b f' e = rw (le-leb i j h, free-i a, held-j b, e, ep, eq) (wrote-lowered i j v hi hj)
+      coupled-row a b f' e = rw (le-leb i j h, free_i a, held_j b, e, ep, eq) (wrote_lowered i j v hi hj)
 
       pub coupled-col : (get_or w (tags + p) 0 ≡ 0 → ⊥) → get_or w (tags + q) 0 ≡ 0 → (f' : List Float)
           → f' ≡ set f (right + q) (get_or f (right + q) nan ⊖ v ⊗ held_value (get_or w (tags + p) 0))
           → Wrote f f' right n (coupled_by (part w tags n) (push i j v) (part f right n))
       unfolding coupled_by
-      coupled-col a b f' e = rw (le-leb i j h, held-i a, free-j b, e, ep, eq) (wrote-lowered j i v hj hi)
+      coupled-col a b f' e = rw (le-leb i j h, held_i a, free_j b, e, ep, eq) (wrote_lowered j i v hj hi)
 
 -- ---- several pushes
 
 pub couples_on : {f f' rhs : List Float} {w : List ℕ} {n right tags : ℕ} → Couples f w n right tags → Wrote f f' right n rhs → Couples f' w n right tags
-couples_on {f} {f'} {rhs} {w} {n} {right} c u = record { floats-fit = rw (as_long u) c.floats-fit; words-fit = c.words-fit }
+couples_on {f} {f'} {rhs} {w} {n} {right} c u = record { floats_fit = rw (as_long u) c.floats-fit; words_fit = c.words-fit }
 
 -- the three of a side
 pub side_coupled : {f f₁ f₂ f₃ : List Float} {right n : ℕ} (tags : List ℕ) (p q r : Push) → Wrote f f₁ right n (coupled_by tags p (part f right n))
@@ -139,13 +139,13 @@ nine-coupled tags q s rhs a b c y ea eb ec =
 pub skipped_coupled : (f : List Float) (w : List ℕ) (n right at : ℕ) → Couples f w n right at → (tags : List ℕ) (q : Triangle) (s : Stiff) → s.skipped ≡ true
     → Wrote f f right n (all_coupled held_value tags (stiff_pushes q s) (part f right n))
 unfolding stiff_pushes all_coupled
-skipped_coupled f w n right at c tags q s y = rw y (wrote-same f w n right at c)
+skipped_coupled f w n right at c tags q s y = rw y (wrote_same f w n right at c)
 
 -- ---- a triangle whose corners are free
 
 module _ (tags : List ℕ) where
-  free-both : (p : Push) (rhs : List Float) → free tags p.row ≡ true → free tags p.col ≡ true → coupled held_value tags p rhs ≡ rhs
-  free-both p rhs a b = rw (a, b) (same (leb p.row p.col))
+  free_both : (p : Push) (rhs : List Float) → free tags p.row ≡ true → free tags p.col ≡ true → coupled held_value tags p rhs ≡ rhs
+  free_both p rhs a b = rw (a, b) (same (leb p.row p.col))
     where
       same : (t : Bool) → pick t rhs rhs ≡ rhs
       same true = refl
@@ -153,20 +153,20 @@ module _ (tags : List ℕ) where
 
   free_on : (p : Push) (ps : List Push) (rhs : List Float) → free tags p.row ≡ true → free tags p.col ≡ true → all_coupled held_value tags (p ∷ ps) rhs ≡ all_coupled held_value tags ps rhs
   unfolding all_coupled
-  free_on p ps rhs a b = ap (all_coupled held_value tags ps) (free-both p rhs a b)
+  free_on p ps rhs a b = ap (all_coupled held_value tags ps) (free_both p rhs a b)
 
-  free-none : (rhs : List Float) → all_coupled held_value tags [] rhs ≡ rhs
+  free_none : (rhs : List Float) → all_coupled held_value tags [] rhs ≡ rhs
   unfolding all_coupled
-  free-none rhs = refl
+  free_none rhs = refl
 
   free-nine : (q : Triangle) (s : Stiff) (rhs : List Float) → free tags q.i ≡ true → free tags q.j ≡ true → free tags q.k ≡ true → all_coupled held_value tags (stiff_pushes q s) rhs ≡ rhs
   unfolding stiff_pushes
   free-nine q s rhs i j k = go s.skipped
     where
       go : (t : Bool) → all_coupled held_value tags (pick t [] (nine q.i q.j q.k s.ii s.ij s.ik s.jj s.jk s.kk)) rhs ≡ rhs
-      go true = free-none rhs
+      go true = free_none rhs
       go false =
-          free_on _ _ rhs i i ∙ free_on _ _ rhs i j ∙ free_on _ _ rhs i k ∙ free_on _ _ rhs j i ∙ free_on _ _ rhs j j ∙ free_on _ _ rhs j k ∙ free_on _ _ rhs k i ∙ free_on _ _ rhs k j ∙ free_on _ _ rhs k k ∙ free-none rhs
+          free_on _ _ rhs i i ∙ free_on _ _ rhs i j ∙ free_on _ _ rhs i k ∙ free_on _ _ rhs j i ∙ free_on _ _ rhs j j ∙ free_on _ _ rhs j k ∙ free_on _ _ rhs k i ∙ free_on _ _ rhs k j ∙ free_on _ _ rhs k k ∙ free_none rhs
 
 pub all_free_lem : (w : List ℕ) (n at : ℕ) (q : Triangle) → Within n q → (a b c : ℕ) → a ≡ q.i → b ≡ q.j → c ≡ q.k
     → (eqb (get_or w (at + a) 0) 0 && eqb (get_or w (at + b) 0) 0 && eqb (get_or w (at + c) 0) 0) ≡ all_free (part w at n) q
@@ -179,7 +179,7 @@ unfolding all_free
 free-coupled f w n right at c q s y =
     let b = both _ _ y in
     let a = both _ _ b.0 in
-    rw (free-nine (part w at n) q s (part f right n) a.0 a.1 b.1) (wrote-same f w n right at c)
+    rw (free-nine (part w at n) q s (part f right n) a.0 a.1 b.1) (wrote_same f w n right at c)
 
 -- ---- all triangles
 
@@ -203,35 +203,35 @@ three_off ts i h =
     (ap (λ (x : ℕ). drop x ts) b ∙ drop-cons ts (3 * i + 2) 0 h ∙ ap (λ (x : ℕ). get_or ts (3 * i + 2) 0 ∷ drop x ts) c))
 
 module _ (f₀ : List Float) (w : List ℕ) (n t : ℕ) (at : Places) (flat : Float) (lf : LaidFloats f₀ n t at) (lw : LaidWords w n t at) where
-  pub coupling-none : Coupling f₀ f₀ w n t at flat 0
-  coupling-none =
+  pub coupling_none : Coupling f₀ f₀ w n t at flat 0
+  coupling_none =
       record {
         within = omega arith;
-        wrote = record { is = sym (splice-part f₀ at.right n); long = length_part f₀ at.right n (omega (arith, lf)); fits = omega (arith, lf) };
+        wrote = record { is = sym (splice_part f₀ at.right n); long = length_part f₀ at.right n (omega (arith, lf)); fits = omega (arith, lf) };
         rest = refl;
       }
 
   module _ (f : List Float) (i : ℕ) (s : Coupling f₀ f w n t at flat i) where
-    pub coupling-long : length f ≡ length f₀
-    coupling-long = as_long s.wrote
+    pub coupling_long : length f ≡ length f₀
+    coupling_long = as_long s.wrote
 
-    pub coupling-couples : Couples f w n at.right at.tags
-    coupling-couples = record { floats-fit = omega (arith, lf, coupling-long); words-fit = omega (arith, lw) }
+    pub coupling_couples : Couples f w n at.right at.tags
+    coupling_couples = record { floats_fit = omega (arith, lf, coupling_long); words_fit = omega (arith, lw) }
 
-    same-vertices : vertices_in f n at ≡ vertices_in f₀ n at
-    same-vertices = kept-before s.wrote at.vertices (2 * n) (omega (arith, lf))
+    same_vertices : vertices_in f n at ≡ vertices_in f₀ n at
+    same_vertices = kept_before s.wrote at.vertices (2 * n) (omega (arith, lf))
 
-    pub coupling-again : i < t → (q : Triangle) (x : Stiff) → q ≡ triangle_of (corners_in w t at) i → x ≡ stiff_in flat (vertices_in f n at) q → (f' : List Float)
+    pub coupling_again : i < t → (q : Triangle) (x : Stiff) → q ≡ triangle_of (corners_in w t at) i → x ≡ stiff_in flat (vertices_in f n at) q → (f' : List Float)
         → Wrote f f' at.right n (all_coupled held_value (tags_in w n at) (stiff_pushes q x) (part f at.right n)) → Coupling f₀ f' w n t at flat (i + 1)
     unfolding pushes stiff_pushes
-    coupling-again h q x eq ex f' u =
+    coupling_again h q x eq ex f' u =
         let tags = tags_in w n at in
         let vs = vertices_in f₀ n at in
         let ts = corners_in w t at in
         let rhs = part f at.right n in
         let long : length ts ≡ 3 * t = length_part w at.triangles (3 * t) (omega (arith, lw)) in
         let d : drop (3 * i) ts ≡ q.i ∷ q.j ∷ q.k ∷ drop (3 * (i + 1)) ts = rw (← eq) at (three_off ts i (omega arith)) in
-        let p : triangle_pushes flat vs q.i q.j q.k ≡ stiff_pushes q x = triangle_pushes_lem flat vs q ∙ rw (← same-vertices, ← ex) in
+        let p : triangle_pushes flat vs q.i q.j q.k ≡ stiff_pushes q x = triangle_pushes_lem flat vs q ∙ rw (← same_vertices, ← ex) in
         let e : all_coupled held_value tags (pushes flat vs (drop (3 * i) ts)) rhs ≡ all_coupled held_value tags (pushes flat vs (drop (3 * (i + 1)) ts)) (all_coupled held_value tags (stiff_pushes q x) rhs) =
         ap (λ (l : List ℕ). all_coupled held_value tags (pushes flat vs l) rhs) d ∙ all_append tags (triangle_pushes flat vs q.i q.j q.k) (pushes flat vs (drop (3 * (i + 1)) ts)) rhs
         ∙ ap (λ (l : List Push). all_coupled held_value tags (pushes flat vs (drop (3 * (i + 1)) ts)) (all_coupled held_value tags l rhs)) p in
@@ -241,9 +241,9 @@ module _ (f₀ : List Float) (w : List ℕ) (n t : ℕ) (at : Places) (flat : Fl
           rest = ap (λ (l : List Float). all_coupled held_value tags (pushes flat vs (drop (3 * (i + 1)) ts)) l) (got u) ∙ sym e ∙ s.rest;
         }
 
-    pub coupling-done : i ≡ t → Wrote f₀ f at.right n (all_coupled held_value (tags_in w n at) (pushes flat (vertices_in f₀ n at) (corners_in w t at)) (part f₀ at.right n))
+    pub coupling_done : i ≡ t → Wrote f₀ f at.right n (all_coupled held_value (tags_in w n at) (pushes flat (vertices_in f₀ n at) (corners_in w t at)) (part f₀ at.right n))
     unfolding pushes all_coupled
-    coupling-done e =
+    coupling_done e =
         let ts = corners_in w t at in
         let long : length ts ≡ 3 * t = length_part w at.triangles (3 * t) (omega (arith, lw)) in
         let d : drop (3 * i) ts ≡ [] = drop_of_length-le ts {i = 3 * i} (omega arith) in
@@ -266,54 +266,54 @@ length-settled (t ∷ ts) [] e = absurd (omega arith)
 length-settled (t ∷ ts) (y ∷ ys) e = ap suc (length-settled ts ys (omega arith))
 
 module _ (f₀ : List Float) (w : List ℕ) (n right tags : ℕ) (c : Couples f₀ w n right tags) where
-  settled-long : (i : ℕ) → i ≤ n → length (settled held_value (part w tags i) (part f₀ right i)) ≡ i
-  settled-long i h =
+  settled_long : (i : ℕ) → i ≤ n → length (settled held_value (part w tags i) (part f₀ right i)) ≡ i
+  settled_long i h =
       let lt : length (part w tags i) ≡ i = length_part w tags i (omega (arith, c)) in
       let ly : length (part f₀ right i) ≡ i = length_part f₀ right i (omega (arith, c)) in
       length-settled (part w tags i) (part f₀ right i) (omega arith) ∙ ly
 
-  pub settle-none : f₀ ≡ splice f₀ right (settled held_value (part w tags 0) (part f₀ right 0))
+  pub settle_none : f₀ ≡ splice f₀ right (settled held_value (part w tags 0) (part f₀ right 0))
   unfolding settled
-  settle-none = rw (part-zero w tags, part-zero f₀ right) (write-none f₀ right)
+  settle_none = rw (part_zero w tags, part_zero f₀ right) (write_none f₀ right)
 
-  pub settle-again : (f : List Float) (i : ℕ) (y : Float) → i < n → f ≡ splice f₀ right (settled held_value (part w tags i) (part f₀ right i)) → y ≡ settled_value (get_or w (tags + i) 0) (get_or f (right + i) nan)
+  pub settle_again : (f : List Float) (i : ℕ) (y : Float) → i < n → f ≡ splice f₀ right (settled held_value (part w tags i) (part f₀ right i)) → y ≡ settled_value (get_or w (tags + i) 0) (get_or f (right + i) nan)
       → set f (right + i) y ≡ splice f₀ right (settled held_value (part w tags (i + 1)) (part f₀ right (i + 1)))
-  settle-again f i y h p e =
+  settle_again f i y h p e =
       let l = settled held_value (part w tags i) (part f₀ right i) in
-      let ll : length l ≡ i = settled-long i (omega arith) in
+      let ll : length l ≡ i = settled_long i (omega arith) in
       let lt : length (part w tags i) ≡ i = length_part w tags i (omega (arith, c)) in
       let ly : length (part f₀ right i) ≡ i = length_part f₀ right i (omega (arith, c)) in
       let g : get_or f (right + i) nan ≡ get_or f₀ (right + i) nan = ap (λ (x : List Float). get_or x (right + i) nan) p ∙ get_or-splice-after f₀ right l (right + i) nan (omega arith) in
       let v = settled_value (get_or w (tags + i) 0) (get_or f₀ (right + i) nan) in
       let m : y ≡ v = e ∙ ap (λ (x : Float). settled_value (get_or w (tags + i) 0) x) g in
       let s : settled held_value (part w tags (i + 1)) (part f₀ right (i + 1)) ≡ l ++ (v ∷ []) =
-      rw (add-one i, part-suc w tags i 0 (omega (arith, c)), part-suc f₀ right i nan (omega (arith, c))) (settled_snoc (part w tags i) (part f₀ right i) (get_or w (tags + i) 0) (get_or f₀ (right + i) nan) (omega arith)) in
+      rw (add-one i, part_suc w tags i 0 (omega (arith, c)), part_suc f₀ right i nan (omega (arith, c))) (settled_snoc (part w tags i) (part f₀ right i) (get_or w (tags + i) 0) (get_or f₀ (right + i) nan) (omega arith)) in
       rw (m, s) (write_step f₀ f right i l v ll p)
 
-  pub settle-done : (f : List Float) (i : ℕ) → i ≡ n → f ≡ splice f₀ right (settled held_value (part w tags i) (part f₀ right i)) → Wrote f₀ f right n (settled held_value (part w tags n) (part f₀ right n))
-  settle-done f i e p = record { is = rw e at p; long = settled-long n (omega arith); fits = c.floats-fit }
+  pub settle_done : (f : List Float) (i : ℕ) → i ≡ n → f ≡ splice f₀ right (settled held_value (part w tags i) (part f₀ right i)) → Wrote f₀ f right n (settled held_value (part w tags n) (part f₀ right n))
+  settle_done f i e p = record { is = rw e at p; long = settled_long n (omega arith); fits = c.floats-fit }
 
 -- ---- the whole right side
 
 module _ (f : List Float) (w : List ℕ) (n t : ℕ) (at : Places) (lf : LaidFloats f n t at) (lw : LaidWords w n t at) where
-  pub zeros-wrote : (f₁ : List Float) → f₁ ≡ splice f at.right (replicate n plus_zero) → Wrote f f₁ at.right n (replicate n plus_zero)
-  zeros-wrote f₁ e = record { is = e; long = length-replicate n plus_zero; fits = omega (arith, lf) }
+  pub zeros_wrote : (f₁ : List Float) → f₁ ≡ splice f at.right (replicate n plus_zero) → Wrote f f₁ at.right n (replicate n plus_zero)
+  zeros_wrote f₁ e = record { is = e; long = length-replicate n plus_zero; fits = omega (arith, lf) }
 
   module _ (f₁ : List Float) (e : f₁ ≡ splice f at.right (replicate n plus_zero)) where
-    pub zeros-laid : LaidFloats f₁ n t at
-    zeros-laid = record { vertices = lf.vertices; right = lf.right; row = lf.row; values = rw (as_long (zeros-wrote f₁ e)) lf.values }
+    pub zeros_laid : LaidFloats f₁ n t at
+    zeros_laid = record { vertices = lf.vertices; right = lf.right; row = lf.row; values = rw (as_long (zeros_wrote f₁ e)) lf.values }
 
     module _ (flat : Float) (f₂ : List Float) (u : Wrote f₁ f₂ at.right n (all_coupled held_value (tags_in w n at) (pushes flat (vertices_in f₁ n at) (corners_in w t at)) (part f₁ at.right n))) where
-      all-coupled : Wrote f f₂ at.right n (all_coupled held_value (tags_in w n at) (pushes flat (vertices_in f n at) (corners_in w t at)) (replicate n plus_zero))
-      all-coupled =
-          let z = zeros-wrote f₁ e in
-          let v : vertices_in f₁ n at ≡ vertices_in f n at = kept-before z at.vertices (2 * n) (omega (arith, lf)) in
+      all_coupled_lem : Wrote f f₂ at.right n (all_coupled held_value (tags_in w n at) (pushes flat (vertices_in f n at) (corners_in w t at)) (replicate n plus_zero))
+      all_coupled_lem =
+          let z = zeros_wrote f₁ e in
+          let v : vertices_in f₁ n at ≡ vertices_in f n at = kept_before z at.vertices (2 * n) (omega (arith, lf)) in
           wrote_then z (rw (v, got z) at u)
 
-      pub all-couples : Couples f₂ w n at.right at.tags
-      all-couples = record { floats-fit = omega (arith, lf, as_long all-coupled); words-fit = omega (arith, lw) }
+      pub all_couples : Couples f₂ w n at.right at.tags
+      all_couples = record { floats_fit = omega (arith, lf, as_long all_coupled_lem); words_fit = omega (arith, lw) }
 
-      pub right-wrote : (f₃ : List Float) → Wrote f₂ f₃ at.right n (settled held_value (tags_in w n at) (part f₂ at.right n))
+      pub right_wrote : (f₃ : List Float) → Wrote f₂ f₃ at.right n (settled held_value (tags_in w n at) (part f₂ at.right n))
           → Wrote f f₃ at.right n (right_side held_value (tags_in w n at) (pushes flat (vertices_in f n at) (corners_in w t at)) n)
       unfolding right_side
-      right-wrote f₃ x = wrote_then all-coupled (rw (got all-coupled) at x)
+      right_wrote f₃ x = wrote_then all_coupled_lem (rw (got all_coupled_lem) at x)

@@ -13,7 +13,7 @@ use Rattle.binary64.specs.Arith.{◌⊕◌}
 use Rattle.binary64.specs.Constants.{one}
 use Rattle.binary64.specs.Number.{pick}
 use Rattle.stretch.specs.Stretch.{part, splice}
-use Rattle.stretch.specs.StretchLaws.{length_part, length-splice, get_d_part, splice-one, splice-part, splice-splice-over, part-splice-before, part-splice-same}
+use Rattle.stretch.specs.StretchLaws.{length_part, length-splice, get_d_part, splice-one, splice_part, splice-splice-over, part_splice-before, part_splice-same}
 use Rattle.sparse.specs.Sparse.{Entry, entry, entries}
 use Rattle.laplace.specs.declared.Places.{Places}
 use Rattle.laplace.specs.declared.element.Side.{Side}
@@ -38,13 +38,13 @@ module _ (f : List Float) (w : List ℕ) (v c : ℕ) where
       let l : length (part w c k) ≡ length (part f v k) = omega arith in
       record {
         count = omega (arith, length-entries (part w c k) (part f v k) l);
-        values = sym (splice-part f v k) ∙ ap (λ (x : List Float). splice f v x) (sym (entries_values (part w c k) (part f v k) l));
-        columns = sym (splice-part w c k) ∙ ap (λ (x : List ℕ). splice w c x) (sym (entries_columns (part w c k) (part f v k) l));
+        values = sym (splice_part f v k) ∙ ap (λ (x : List Float). splice f v x) (sym (entries_values (part w c k) (part f v k) l));
+        columns = sym (splice_part w c k) ∙ ap (λ (x : List ℕ). splice w c x) (sym (entries_columns (part w c k) (part f v k) l));
       }
 
   module _ (f' : List Float) (w' : List ℕ) (k : ℕ) (es : List Entry) (r : Written f w f' w' v c k es) where
-    pub floats-long : length f' ≡ length f
-    floats-long = ap length r.values ∙ length-splice f v (values_in es)
+    pub floats_long : length f' ≡ length f
+    floats_long = ap length r.values ∙ length-splice f v (values_in es)
 
     pub words_long : length w' ≡ length w
     words_long = ap length r.columns ∙ length-splice w c (columns_in es)
@@ -54,16 +54,16 @@ module _ (f : List Float) (w : List ℕ) (v c : ℕ) where
     read_back hf hw =
         let lv : length (values_in es) ≡ k = length_values es ∙ sym r.count in
         let lc : length (columns_in es) ≡ k = length_columns es ∙ sym r.count in
-        let pv : part f' v k ≡ values_in es = ap (λ (x : List Float). part x v k) r.values ∙ part-splice-same f v (values_in es) k lv hf in
-        let pc : part w' c k ≡ columns_in es = ap (λ (x : List ℕ). part x c k) r.columns ∙ part-splice-same w c (columns_in es) k lc hw in
+        let pv : part f' v k ≡ values_in es = ap (λ (x : List Float). part x v k) r.values ∙ part_splice-same f v (values_in es) k lv hf in
+        let pc : part w' c k ≡ columns_in es = ap (λ (x : List ℕ). part x c k) r.columns ∙ part_splice-same w c (columns_in es) k lc hw in
         rw (pv, pc) (entries_again es)
 
     -- what lies before stays
-    pub floats-before : (b n : ℕ) → b + n ≤ v → part f' b n ≡ part f b n
-    floats-before b n h = ap (λ (x : List Float). part x b n) r.values ∙ part-splice-before f v (values_in es) b n h
+    pub floats_before : (b n : ℕ) → b + n ≤ v → part f' b n ≡ part f b n
+    floats_before b n h = ap (λ (x : List Float). part x b n) r.values ∙ part_splice-before f v (values_in es) b n h
 
-    pub words-before : (b n : ℕ) → b + n ≤ c → part w' b n ≡ part w b n
-    words-before b n h = ap (λ (x : List ℕ). part x b n) r.columns ∙ part-splice-before w c (columns_in es) b n h
+    pub words_before : (b n : ℕ) → b + n ≤ c → part w' b n ≡ part w b n
+    words_before b n h = ap (λ (x : List ℕ). part x b n) r.columns ∙ part_splice-before w c (columns_in es) b n h
 
     -- at least as many written after them
     pub written_then : (f'' : List Float) (w'' : List ℕ) (k' : ℕ) (es' : List Entry) → length es ≤ length es' → Written f' w' f'' w'' v c k' es' → Written f w f'' w'' v c k' es'
@@ -108,52 +108,52 @@ insert_longer j v (e ∷ es) = go (ltb e.col j) (eqb e.col j) (insert_longer j v
 
 -- the same of an entry to a free column, and of three
 module _ (n : ℕ) (tags : List ℕ) where
-  pub tidy-placed : (j : ℕ) (v : Float) (es : List Entry) → j < n → Tidy n es → Tidy n (placed tags j v es)
+  pub tidy_placed : (j : ℕ) (v : Float) (es : List Entry) → j < n → Tidy n es → Tidy n (placed tags j v es)
   unfolding placed
-  tidy-placed j v es h t = go (free tags j)
+  tidy_placed j v es h t = go (free tags j)
     where
       go : (b : Bool) → Tidy n (pick b (insert j v es) es)
       go true = tidy_insert n j v es h t
       go false = t
 
-  pub placed-longer : (j : ℕ) (v : Float) (es : List Entry) → length es ≤ length (placed tags j v es)
+  pub placed_longer : (j : ℕ) (v : Float) (es : List Entry) → length es ≤ length (placed tags j v es)
   unfolding placed
-  placed-longer j v es = go (free tags j)
+  placed_longer j v es = go (free tags j)
     where
       go : (b : Bool) → length es ≤ length (pick b (insert j v es) es)
       go true = insert_longer j v es
       go false = le_refl (length es)
 
-  pub tidy-three : (q : Triangle) (s : Side) (es : List Entry) → Within n q → Tidy n es → Tidy n (three_placed tags q s es)
+  pub tidy_three : (q : Triangle) (s : Side) (es : List Entry) → Within n q → Tidy n es → Tidy n (three_placed tags q s es)
   unfolding three_placed
-  tidy-three q s es h t =
+  tidy_three q s es h t =
       let a = placed tags q.i s.i es in
       let b = placed tags q.j s.j a in
-      tidy-placed q.k s.k b h.k (tidy-placed q.j s.j a h.j (tidy-placed q.i s.i es h.i t))
+      tidy_placed q.k s.k b h.k (tidy_placed q.j s.j a h.j (tidy_placed q.i s.i es h.i t))
 
-  three-longer : (q : Triangle) (s : Side) (es : List Entry) → length es ≤ length (three_placed tags q s es)
+  three_longer : (q : Triangle) (s : Side) (es : List Entry) → length es ≤ length (three_placed tags q s es)
   unfolding three_placed
-  three-longer q s es =
+  three_longer q s es =
       let a = placed tags q.i s.i es in
       let b = placed tags q.j s.j a in
-      omega (arith, placed-longer q.i s.i es, placed-longer q.j s.j a, placed-longer q.k s.k b)
+      omega (arith, placed_longer q.i s.i es, placed_longer q.j s.j a, placed_longer q.k s.k b)
 
   module _ (flat : Float) (vs : List Float) (q : Triangle) (e : ℕ) (es : List Entry) where
-    pub tidy-by : Within n q → Tidy n es → Tidy n (added_by tags flat vs q e es)
+    pub tidy_by : Within n q → Tidy n es → Tidy n (added_by tags flat vs q e es)
     unfolding added_by
-    tidy-by h t = go (stiff_in flat vs q).skipped
+    tidy_by h t = go (stiff_in flat vs q).skipped
       where
         go : (b : Bool) → Tidy n (pick b es (three_placed tags q (side_of (stiff_in flat vs q) e) es))
         go true = t
-        go false = tidy-three q (side_of (stiff_in flat vs q) e) es h t
+        go false = tidy_three q (side_of (stiff_in flat vs q) e) es h t
 
-    pub by-longer : length es ≤ length (added_by tags flat vs q e es)
+    pub by_longer : length es ≤ length (added_by tags flat vs q e es)
     unfolding added_by
-    by-longer = go (stiff_in flat vs q).skipped
+    by_longer = go (stiff_in flat vs q).skipped
       where
         go : (b : Bool) → length es ≤ length (pick b es (three_placed tags q (side_of (stiff_in flat vs q) e) es))
         go true = le_refl (length es)
-        go false = three-longer q (side_of (stiff_in flat vs q) e) es
+        go false = three_longer q (side_of (stiff_in flat vs q) e) es
 
 -- ---- the row buffer
 
@@ -162,7 +162,7 @@ module _ (f : List Float) (w : List ℕ) (n t : ℕ) (at : Places) (k : ℕ) (b 
   pub room : (j : ℕ) (v : Float) → j < n → Room f w at.row at.rowcols k (insert j v (row_in f w at k))
   room j v h =
       let l : length (insert j v (row_in f w at k)) ≤ n = tidy_few n (insert j v (row_in f w at k)) (tidy_insert n j v (row_in f w at k) h b.tidy) in
-      record { floats-now = omega (arith, b); words-now = omega (arith, b); floats-then = omega (arith, b); words-then = omega (arith, b) }
+      record { floats_now = omega (arith, b); words_now = omega (arith, b); floats_then = omega (arith, b); words_then = omega (arith, b) }
 
   -- the tag of a vertex, as the code reads it
   pub tag_read : (j : ℕ) → j < n → tag_of (tags_in w n at) j ≡ get_or w (at.tags + j) 0
@@ -184,16 +184,16 @@ module _ (f : List Float) (w : List ℕ) (n t : ℕ) (at : Places) (k : ℕ) (b 
   unfolding row free
   written-free ps r h e f' w' k' a = rw (tag_read r h, e) a
 
-  pub written-lone : (ps : List Push) (r : ℕ) → r < n → (get_or w (at.tags + r) 0 ≡ 0 → ⊥) → Written f w (set f at.row one) (set w at.rowcols r) at.row at.rowcols 1 (row (tags_in w n at) ps r)
+  pub written_lone : (ps : List Push) (r : ℕ) → r < n → (get_or w (at.tags + r) 0 ≡ 0 → ⊥) → Written f w (set f at.row one) (set w at.rowcols r) at.row at.rowcols 1 (row (tags_in w n at) ps r)
   unfolding row free values_in columns_in
-  written-lone ps r h e =
+  written_lone ps r h e =
       rw (tag_read r h, ne_eqb (get_or w (at.tags + r) 0) 0 e) record { count = refl; values = sym (splice-one f at.row one); columns = sym (splice-one w at.rowcols r) }
 
   -- a corner's entries: none where its triangle is skipped
   module _ (flat : Float) (c : ℕ) (q : Triangle) (s : Stiff) (e : q ≡ triangle_of (corners_in w t at) (c / 3)) (d : s ≡ stiff_in flat (vertices_in f n at) q) where
-    pub written-skipped : s.skipped ≡ true → Written f w f w at.row at.rowcols k (added (tags_in w n at) flat (vertices_in f n at) (corners_in w t at) c (row_in f w at k))
+    pub written_skipped : s.skipped ≡ true → Written f w f w at.row at.rowcols k (added (tags_in w n at) flat (vertices_in f n at) (corners_in w t at) c (row_in f w at k))
     unfolding added added_by
-    written-skipped y = rw (← e, ← d, y) (written_none f w at.row at.rowcols k (omega (arith, b)) (omega (arith, b)))
+    written_skipped y = rw (← e, ← d, y) (written_none f w at.row at.rowcols k (omega (arith, b)) (omega (arith, b)))
 
     pub written-corner : s.skipped ≡ false → (f' : List Float) (w' : List ℕ) (k' : ℕ) (x : Side) → x ≡ side_of s (c % 3)
         → Written f w f' w' at.row at.rowcols k' (three_placed (tags_in w n at) q x (row_in f w at k))
@@ -209,14 +209,14 @@ module _ (f : List Float) (w : List ℕ) (n t : ℕ) (at : Places) (k : ℕ) (b 
         rw (u ∙ ap (λ (z : Triangle). added_by tags flat vs z (c % 3) es) e) at r
 
   module _ (f' : List Float) (w' : List ℕ) (k' : ℕ) (es : List Entry) (r : Written f w f' w' at.row at.rowcols k' es) where
-    pub tags-stay : tags_in w' n at ≡ tags_in w n at
-    tags-stay = words-before f w at.row at.rowcols f' w' k' es r at.tags n (omega (arith, b))
+    pub tags_stay : tags_in w' n at ≡ tags_in w n at
+    tags_stay = words_before f w at.row at.rowcols f' w' k' es r at.tags n (omega (arith, b))
 
-    pub corners-stay : corners_in w' t at ≡ corners_in w t at
-    corners-stay = words-before f w at.row at.rowcols f' w' k' es r at.triangles (3 * t) (omega (arith, b))
+    pub corners_stay : corners_in w' t at ≡ corners_in w t at
+    corners_stay = words_before f w at.row at.rowcols f' w' k' es r at.triangles (3 * t) (omega (arith, b))
 
-    pub vertices-stay : vertices_in f' n at ≡ vertices_in f n at
-    vertices-stay = floats-before f w at.row at.rowcols f' w' k' es r at.vertices (2 * n) (omega (arith, b))
+    pub vertices_stay : vertices_in f' n at ≡ vertices_in f n at
+    vertices_stay = floats_before f w at.row at.rowcols f' w' k' es r at.vertices (2 * n) (omega (arith, b))
 
     pub row_read : Tidy n es → row_in f' w' at k' ≡ es
     row_read y =
@@ -224,23 +224,23 @@ module _ (f : List Float) (w : List ℕ) (n t : ℕ) (at : Places) (k : ℕ) (b 
         read_back f w at.row at.rowcols f' w' k' es r (omega (arith, b, r.count)) (omega (arith, b, r.count))
 
     -- the row that is built goes on
-    pub building-on : Tidy n es → Building f' w' n t at k'
-    building-on y =
-        let lf : length f' ≡ length f = floats-long f w at.row at.rowcols f' w' k' es r in
+    pub building_on : Tidy n es → Building f' w' n t at k'
+    building_on y =
+        let lf : length f' ≡ length f = floats_long f w at.row at.rowcols f' w' k' es r in
         let lw : length w' ≡ length w = words_long f w at.row at.rowcols f' w' k' es r in
         let l : length es ≤ n = tidy_few n es y in
         record {
-          floats-laid = record { vertices = b.floats-laid.vertices; right = b.floats-laid.right; row = b.floats-laid.row; values = rw lf b.floats-laid.values };
-          words-laid = record {
-            few = b.words-laid.few;
-            triangles = b.words-laid.triangles;
-            tags = b.words-laid.tags;
-            starts = b.words-laid.starts;
-            cols = b.words-laid.cols;
-            heads = b.words-laid.heads;
-            links = b.words-laid.links;
-            row = rw lw b.words-laid.row;
-            corners = rw corners-stay b.words-laid.corners;
+          floats_laid = record { vertices = b.floats_laid.vertices; right = b.floats_laid.right; row = b.floats_laid.row; values = rw lf b.floats_laid.values };
+          words_laid = record {
+            few = b.words_laid.few;
+            triangles = b.words_laid.triangles;
+            tags = b.words_laid.tags;
+            starts = b.words_laid.starts;
+            cols = b.words_laid.cols;
+            heads = b.words_laid.heads;
+            links = b.words_laid.links;
+            row = rw lw b.words_laid.row;
+            corners = rw corners_stay b.words_laid.corners;
           };
           within = omega (arith, r.count);
           tidy = rw (row_read y) y;
@@ -250,4 +250,4 @@ module _ (f : List Float) (w : List ℕ) (n t : ℕ) (at : Places) (k : ℕ) (b 
     pub placed_on : Tidy n es → (f'' : List Float) (w'' : List ℕ) (k'' j : ℕ) (v : Float) → Written f' w' f'' w'' at.row at.rowcols k'' (placed (tags_in w' n at) j v (row_in f' w' at k'))
         → Written f w f'' w'' at.row at.rowcols k'' (placed (tags_in w n at) j v es)
     placed_on y f'' w'' k'' j v s =
-        written_then f w at.row at.rowcols f' w' k' es r f'' w'' k'' (placed (tags_in w n at) j v es) (placed-longer n (tags_in w n at) j v es) (rw (tags-stay, row_read y) at s)
+        written_then f w at.row at.rowcols f' w' k' es r f'' w'' k'' (placed (tags_in w n at) j v es) (placed_longer n (tags_in w n at) j v es) (rw (tags_stay, row_read y) at s)

@@ -13,7 +13,7 @@ use lib.ListN.{length, get_or, drop, length-drop}
 use lib.Seq.{drop-drop, get_or-drop}
 use borrow.Author.Tests.{eqb-true}
 use Rattle.binary64.specs.Number.{pick}
-use Rattle.stretch.specs.StretchLaws.{length_part, get_d_part, splice-nil}
+use Rattle.stretch.specs.StretchLaws.{length_part, get_d_part, splice_nil}
 use Rattle.sparse.specs.Sparse.{Entry}
 use Rattle.laplace.specs.declared.Places.{Places}
 use Rattle.laplace.specs.declared.element.Side.{Side}
@@ -26,7 +26,7 @@ use Rattle.laplace.specs.Placed.{values_in, columns_in}
 use Rattle.laplace.specs.Row.{Written, vertices_in, corners_in, tags_in, row_in, Tidy, Building, three_placed, side_of, added_by, added, Linked}
 use Rattle.laplace.proofs.LawsElement.{triangle_pushes_lem, triangle-within}
 use Rattle.laplace.proofs.LawsCorners.{get_or_heads, get_or_links}
-use Rattle.laplace.proofs.LawsRow.{written_then, words-before, tidy_none, tidy-by, by-longer, tags-stay, corners-stay, vertices-stay, row_read}
+use Rattle.laplace.proofs.LawsRow.{written_then, words_before, tidy_none, tidy_by, by_longer, tags_stay, corners_stay, vertices_stay, row_read}
 
 -- ---- the walk, over the corners cs, which are numbered from k
 
@@ -118,16 +118,16 @@ triangle-inserted tags flat vs r q es = rw (triangle_pushes_lem flat vs q) (go (
     three : ℕ → Side → List Push
     three v s = push v q.i s.i ∷ push v q.j s.j ∷ push v q.k s.k ∷ []
 
-    added-if : Bool → ℕ → ℕ → List Entry → List Entry
-    added-if b v e l = pick (eqb v r) (pick b l (three_placed tags q (side e) l)) l
+    added_if : Bool → ℕ → ℕ → List Entry → List Entry
+    added_if b v e l = pick (eqb v r) (pick b l (three_placed tags q (side e) l)) l
 
     go : (b : Bool)
         → inserted tags r (pick b [] (nine q.i q.j q.k (stiff_in flat vs q).ii (stiff_in flat vs q).ij (stiff_in flat vs q).ik (stiff_in flat vs q).jj (stiff_in flat vs q).jk (stiff_in flat vs q).kk)) es
-        ≡ added-if b q.k 2 (added-if b q.j 1 (added-if b q.i 0 es))
+        ≡ added_if b q.k 2 (added_if b q.j 1 (added_if b q.i 0 es))
     go true = rw (pick_same (eqb q.i r) es, pick_same (eqb q.j r) es, pick_same (eqb q.k r) es)
     go false =
-        let y = added-if false q.i 0 es in
-        let z = added-if false q.j 1 y in
+        let y = added_if false q.i 0 es in
+        let z = added_if false q.j 1 y in
         inserted-append tags r (three q.i (side 0)) (three q.j (side 1) ++ three q.k (side 2)) es
         ∙ ap (λ (l : List Entry). inserted tags r (three q.j (side 1) ++ three q.k (side 2)) l) (side_inserted tags r q.i q (side 0) es)
         ∙ inserted-append tags r (three q.j (side 1)) (three q.k (side 2)) y
@@ -215,7 +215,7 @@ module _ (f₀ : List Float) (w₀ : List ℕ) (n t : ℕ) (at : Places) (flat :
       let s : First ts 0 r c = rw g (first_is ts 0 r ts refl) in
       record {
         es = [];
-        written = record { count = refl; values = sym (splice-nil f₀ at.row); columns = sym (splice-nil w₀ at.rowcols) };
+        written = record { count = refl; values = sym (splice_nil f₀ at.row); columns = sym (splice_nil w₀ at.rowcols) };
         tidy = tidy_none n;
         within = omega (arith, s.within, long);
         corner = s.is;
@@ -232,9 +232,9 @@ module _ (f₀ : List Float) (w₀ : List ℕ) (n t : ℕ) (at : Places) (flat :
         let vs = vertices_in f₀ n at in
         let ts = corners_in w₀ t at in
         let es = added tags flat vs ts (c - 1) s.es in
-        let m : length s.es ≤ length es = by-longer n tags flat vs (triangle_of ts ((c - 1) / 3)) ((c - 1) % 3) s.es in
+        let m : length s.es ≤ length es = by_longer n tags flat vs (triangle_of ts ((c - 1) / 3)) ((c - 1) % 3) s.es in
         written_then f₀ w₀ at.row at.rowcols f w k s.es s.written f' w' k' es m
-        (rw (tags-stay f₀ w₀ n t at 0 b f w k s.es s.written, vertices-stay f₀ w₀ n t at 0 b f w k s.es s.written, corners-stay f₀ w₀ n t at 0 b f w k s.es s.written, row_read f₀ w₀ n t at 0 b f w k s.es s.written s.tidy) at a)
+        (rw (tags_stay f₀ w₀ n t at 0 b f w k s.es s.written, vertices_stay f₀ w₀ n t at 0 b f w k s.es s.written, corners_stay f₀ w₀ n t at 0 b f w k s.es s.written, row_read f₀ w₀ n t at 0 b f w k s.es s.written s.tidy) at a)
 
     -- the corner after it
     next-corner : (d : ℕ) → d ≡ get_or w' (at.links + (c - 1)) 0 → d ≡ first_from c r (drop c (corners_in w₀ t at))
@@ -246,21 +246,21 @@ module _ (f₀ : List Float) (w₀ : List ℕ) (n t : ℕ) (at : Places) (flat :
         let a1 : suc (0 + i) ≡ c = omega arith in
         let a2 : suc i ≡ c = omega arith in
         e ∙ sym (get_d_part w' at.links (3 * t) i 0 j)
-        ∙ ap (λ (x : List ℕ). get_or x i 0) (words-before f₀ w₀ at.row at.rowcols f' w' k' es next-written at.links (3 * t) (omega (arith, b)) ∙ l.links)
+        ∙ ap (λ (x : List ℕ). get_or x i 0) (words_before f₀ w₀ at.row at.rowcols f' w' k' es next-written at.links (3 * t) (omega (arith, b)) ∙ l.links)
         ∙ get_or_links 0 ts i (omega (arith, long))
         ∙ ap (λ (x : ℕ). first_from x (get_or ts i 0) (drop (suc i) ts)) a1
         ∙ ap (λ (x : ℕ). first_from c x (drop (suc i) ts)) (s.corner p)
         ∙ ap (λ (x : ℕ). first_from c r (drop x ts)) a2
 
-    pub walk-less : (d : ℕ) → d ≡ get_or w' (at.links + (c - 1)) 0 → ahead (3 * t) d < ahead (3 * t) c
-    walk-less d e =
+    pub walk_less : (d : ℕ) → d ≡ get_or w' (at.links + (c - 1)) 0 → ahead (3 * t) d < ahead (3 * t) c
+    walk_less d e =
         let ts = corners_in w₀ t at in
         let u : First ts c r d = rw (next-corner d e) (first_is ts c r (drop c ts) refl) in
         ahead-less (3 * t) c d p s.within u.later
 
-    pub walk-again : (d : ℕ) → d ≡ get_or w' (at.links + (c - 1)) 0 → Walking f₀ w₀ f' w' n t at flat r k' d
+    pub walk_again : (d : ℕ) → d ≡ get_or w' (at.links + (c - 1)) 0 → Walking f₀ w₀ f' w' n t at flat r k' d
     unfolding added
-    walk-again d e =
+    walk_again d e =
         let tags = tags_in w₀ n at in
         let vs = vertices_in f₀ n at in
         let ts = corners_in w₀ t at in
@@ -270,13 +270,13 @@ module _ (f₀ : List Float) (w₀ : List ℕ) (n t : ℕ) (at : Places) (flat :
         record {
           es = added tags flat vs ts (c - 1) s.es;
           written = next-written;
-          tidy = tidy-by n tags flat vs (triangle_of ts q) ((c - 1) % 3) s.es (triangle-within n ts q b.words-laid.corners (omega (arith, s.within, long))) s.tidy;
+          tidy = tidy_by n tags flat vs (triangle_of ts q) ((c - 1) % 3) s.es (triangle-within n ts q b.words_laid.corners (omega (arith, s.within, long))) s.tidy;
           within = omega (arith, u.within, long);
           corner = u.is;
           rest = rw g (sym (walk_next tags flat vs ts r c (drop c ts) (added tags flat vs ts (c - 1) s.es) refl) ∙ sym (follow_on tags flat vs ts r c s.es p) ∙ s.rest);
         }
 
-  pub walk-done : (f : List Float) (w : List ℕ) (k c : ℕ) → c ≡ 0 → Walking f₀ w₀ f w n t at flat r k c
+  pub walk_done : (f : List Float) (w : List ℕ) (k c : ℕ) → c ≡ 0 → Walking f₀ w₀ f w n t at flat r k c
       → Written f₀ w₀ f w at.row at.rowcols k (inserted (tags_in w₀ n at) r (pushes flat (vertices_in f₀ n at) (corners_in w₀ t at)) [])
   unfolding follow
-  walk-done f w k c e s = rw (← s.rest, e) s.written
+  walk_done f w k c e s = rw (← s.rest, e) s.written

@@ -24,8 +24,8 @@ all_free tags q = free tags q.i && free tags q.j && free tags q.k
 
 -- the n numbers of the right side and the n tags fit
 pub record Couples (floats : List Float) (words : List ℕ) (n right tags : ℕ) : Type 0 where
-  pub floats-fit : right + n ≤ length floats
-  pub words-fit : tags + n ≤ length words
+  pub floats_fit : right + n ≤ length floats
+  pub words_fit : tags + n ≤ length words
 
 -- the number y of a vertex with a tag, once held vertices have their value
 unfoldable pub settled_value : ℕ → Float → Float

@@ -28,10 +28,10 @@ entries_at floats words v c k = entries (part words c k) (part floats v k)
 
 -- there is room for k entries, and for the entries es
 pub record Room (floats : List Float) (words : List ℕ) (v c k : ℕ) (es : List Entry) : Type 0 where
-  pub floats-now : v + k ≤ length floats
-  pub words-now : c + k ≤ length words
-  pub floats-then : v + length es ≤ length floats
-  pub words-then : c + length es ≤ length words
+  pub floats_now : v + k ≤ length floats
+  pub words_now : c + k ≤ length words
+  pub floats_then : v + length es ≤ length floats
+  pub words_then : c + length es ≤ length words
 
 -- the k entries es were written, and nothing else
 pub record Written (floats : List Float) (words : List ℕ) (floats' : List Float) (words' : List ℕ) (v c k : ℕ) (es : List Entry) : Type 0 where
@@ -59,8 +59,8 @@ pub record Tidy (n : ℕ) (es : List Entry) : Type 0 where
   pub below : Below n es
 
 pub record Building (floats : List Float) (words : List ℕ) (n t : ℕ) (at : Places) (k : ℕ) : Type 0 where
-  pub floats-laid : LaidFloats floats n t at
-  pub words-laid : LaidWords words n t at
+  pub floats_laid : LaidFloats floats n t at
+  pub words_laid : LaidWords words n t at
   pub within : k ≤ n
   pub tidy : Tidy n (row_in floats words at k)
 

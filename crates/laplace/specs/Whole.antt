@@ -24,8 +24,8 @@ rows_for flat floats words n t at i = rows (tags_in words n at) (pushes_in flat 
 
 -- k entries of the row buffer go behind `count` others
 pub record Appends (floats : List Float) (words : List ℕ) (n t : ℕ) (at : Places) (k count : ℕ) : Type 0 where
-  pub floats-laid : LaidFloats floats n t at
-  pub words-laid : LaidWords words n t at
+  pub floats_laid : LaidFloats floats n t at
+  pub words_laid : LaidWords words n t at
   pub within : k ≤ n
   pub room : count + k ≤ 9 * t + n
 
@@ -35,11 +35,11 @@ pub record Appended (floats : List Float) (words : List ℕ) (floats' : List Flo
 
 -- heads and links are there, the row buffer is clear, and the first row starts at 0
 pub record Ready (floats : List Float) (words : List ℕ) (n t : ℕ) (at : Places) : Type 0 where
-  pub floats-laid : LaidFloats floats n t at
-  pub words-laid : LaidWords words n t at
+  pub floats_laid : LaidFloats floats n t at
+  pub words_laid : LaidWords words n t at
   pub linked : Linked words n t at
-  pub values-clear : part floats at.row n ≡ replicate n plus_zero
-  pub columns-clear : part words at.rowcols n ≡ replicate n 0
+  pub values_clear : part floats at.row n ≡ replicate n plus_zero
+  pub columns_clear : part words at.rowcols n ≡ replicate n 0
   pub start : get_or words at.starts 0 ≡ 0
 
 -- the row es of vertex r put behind `count` entries; `end` counts them all
@@ -62,13 +62,13 @@ most n t = 9 * t + n
 
 -- the row buffer and the stretches of the matrix are clear
 pub record Cleared (floats : List Float) (words : List ℕ) (floats' : List Float) (words' : List ℕ) (n t : ℕ) (at : Places) : Type 0 where
-  pub floats-are : floats' ≡ splice (splice floats at.row (replicate n plus_zero)) at.values (replicate (most n t) plus_zero)
+  pub floats_are : floats' ≡ splice (splice floats at.row (replicate n plus_zero)) at.values (replicate (most n t) plus_zero)
   pub words_are : words' ≡ splice (splice (set words at.starts 0) at.cols (replicate (most n t) 0)) at.rowcols (replicate n 0)
 
 -- Every place after the assembly of k entries: the rows rs, the right side rhs, zeros where there was only scratch or there is only room, and all else as it was.
 pub record Assembled (floats : List Float) (words : List ℕ) (floats' : List Float) (words' : List ℕ) (n t : ℕ) (at : Places) (k : ℕ) (rs : List (List Entry)) (rhs : List Float) : Type 0 where
   pub total : k ≡ count rs
-  pub floats-are :
+  pub floats_are :
       floats' ≡ splice (splice (splice floats at.right rhs) at.row (replicate n plus_zero)) at.values (padded (most n t) plus_zero (values_of rs))
   pub words_are :
       words'

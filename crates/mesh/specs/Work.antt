@@ -31,18 +31,18 @@ pub record NoneOrBelow (n : ℕ) (l : List ℕ) : Type 0 where
 
 -- of the words
 pub record Linked (words : List ℕ) (m : Mesh) : Type 0 where
-  pub n-most : m.n ≤ 4096
-  pub t-most : m.t ≤ 8192
-  pub triangles-fit : m.triangles + 3 * m.t ≤ length words
-  pub neighbours-fit : m.neighbours + 3 * m.t ≤ length words
-  pub tags-fit : m.tags + m.n ≤ length words
+  pub n_most : m.n ≤ 4096
+  pub t_most : m.t ≤ 8192
+  pub triangles_fit : m.triangles + 3 * m.t ≤ length words
+  pub neighbours_fit : m.neighbours + 3 * m.t ≤ length words
+  pub tags_fit : m.tags + m.n ≤ length words
   pub corners : Below m.n (triangles_of words m)
   pub neighbours : NoneOrBelow m.t (neighbours_of words m)
 
 -- of both
 pub record Meshed (floats : List Float) (words : List ℕ) (m : Mesh) : Type 0 where
   pub linked : Linked words m
-  pub vertices-fit : m.vertices + 2 * m.n ≤ length floats
+  pub vertices_fit : m.vertices + 2 * m.n ≤ length floats
 
 -- ---- what an accessor answers
 

@@ -67,4 +67,4 @@ corner_answer {words} {m} {t} {e} l h k p =
 
 -- the vertices' buffer may change, as long as it is as long
 pub meshed_as_long : {floats floats' : List Float} {words : List ℕ} {m : Mesh} → Meshed floats words m → length floats' ≡ length floats → Meshed floats' words m
-meshed_as_long {floats} {floats'} {words} {m} h e = record { linked = h.linked; vertices-fit = omega (arith, h.vertices-fit) }
+meshed_as_long {floats} {floats'} {words} {m} h e = record { linked = h.linked; vertices_fit = omega (arith, h.vertices_fit) }

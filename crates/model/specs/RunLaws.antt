@@ -168,16 +168,16 @@ module _ (c : Task) (p : ℕ) (n : (at c p).field.end ≢ 0) where
   pub solved-le : solved_place (at c p).field ≤ p
   solved-le = (solved_at_lem c p n).0
 
-  pub solved-bound : solved_place (at c p).field ≤ c.limit
-  solved-bound = (solved_at_lem c p n).1.bound
+  pub solved_bound : solved_place (at c p).field ≤ c.limit
+  solved_bound = (solved_at_lem c p n).1.bound
 
-  pub solved-field : (q : ℕ) → solved_place (at c p).field ≤ q → (at c q).field ≡ (at c p).field
-  solved-field q h =
+  pub solved_field : (q : ℕ) → solved_place (at c p).field ≤ q → (at c q).field ≡ (at c p).field
+  solved_field q h =
       let s : Solved c (solved_place (at c p).field) (at c p).field = (solved_at_lem c p n).1 in
       field_stays c (solved_place (at c p).field) q h (λ (z : (at c (solved_place (at c p).field)).field.end ≡ 0). n (sym (ap (λ (f : Field). f.end) s.field) ∙ z)) ∙ s.field
 
-  pub solved-trail : (at c (solved_place (at c p).field)).trail ≡ no_trail (triangle_count c)
-  solved-trail = (solved_at_lem c p n).1.trail
+  pub solved_trail : (at c (solved_place (at c p).field)).trail ≡ no_trail (triangle_count c)
+  solved_trail = (solved_at_lem c p n).1.trail
 
   pub solved-state : at c (solved_place (at c p).field) ≡ state (at c p).field (no_trail (triangle_count c))
   solved-state = λ i. state ((solved_at_lem c p n).1.field i) ((solved_at_lem c p n).1.trail i)
@@ -190,14 +190,14 @@ module _ (c : Task) (p : ℕ) (n : (at c p).field.end ≢ 0) where
       go true e =
           let l : p ≤ solved_place (at c p).field = leb-true _ _ e in
           let m : solved_place (at c p).field ≡ p = omega (arith, solved-le) in
-          absurd (k (subst (λ (q : ℕ). (at c q).trail.walk.points ≡ 0) m (ap (λ (t : Trail). t.walk.points) solved-trail)))
+          absurd (k (subst (λ (q : ℕ). (at c q).trail.walk.points ≡ 0) m (ap (λ (t : Trail). t.walk.points) solved_trail)))
       go false e = leb-false _ _ e
 
-  pub before-field : (q : ℕ) → q < solved_place (at c p).field → (at c q).field.end ≡ 0
-  before-field q h = (solved_at_lem c p n).1.before q h
+  pub before_field : (q : ℕ) → q < solved_place (at c p).field → (at c q).field.end ≡ 0
+  before_field q h = (solved_at_lem c p n).1.before q h
 
-  pub before-trail : (q : ℕ) → q < solved_place (at c p).field → (at c q).trail ≡ no_trail (triangle_count c)
-  before-trail q h = unsolved_trail c q (before-field q h)
+  pub before_trail : (q : ℕ) → q < solved_place (at c p).field → (at c q).trail ≡ no_trail (triangle_count c)
+  before_trail q h = unsolved_trail c q (before_field q h)
 
 -- ---- crossings
 
@@ -381,7 +381,7 @@ crossings_counted c p n h = from (λ (r : ℕ). r ≤ last_place c → (at c r).
     next r l ih m =
         let u : finished (at c r) ≡ false = last_first c r m in
         let w : Underway c s r (at c r).trail = at-crossing c s f (solved_at_lem c p n).1 r l u in
-        let k : (at c r).field.end ≢ 0 = λ (z : (at c r).field.end ≡ 0). n (sym (ap (λ (g : Field). g.end) (solved-field c p n r (omega arith))) ∙ z) in
+        let k : (at c r).field.end ≢ 0 = λ (z : (at c r).field.end ≡ 0). n (sym (ap (λ (g : Field). g.end) (solved_field c p n r (omega arith))) ∙ z) in
         let q : (at c (suc r)).trail ≡ crossing_pass c (at c r).field.solve.x (at c r).trail =
         ap (λ (t : State). t.trail) (pass_cross c (at c r) (unfinished_end (at c r) u) k (omega arith)) in
         omega (arith, ap (λ (t : Trail). t.crossings) q, crossing_counts c (at c r).field.solve.x (at c r).trail, ih (omega arith))
@@ -429,7 +429,7 @@ norms_bound c p = go (eqb (at c p).field.end 0) refl
   where
     go : (b : Bool) → eqb (at c p).field.end 0 ≡ b → length (at c p).field.norms ≤ c.limit + 1
     go true e = let u : Unsolved c p (at c p) = unsolved c p (eqb-true _ _ e) in omega arith
-    go false e = omega (arith, solved-bound c p (eqb-false _ _ e))
+    go false e = omega (arith, solved_bound c p (eqb-false _ _ e))
 
 -- ---- what holds at every place, by the kinds of pass
 
@@ -495,25 +495,25 @@ points_bound c r =
 -- a path with points is in one of the triangles, which it entered by an edge or none; one without has triangle 0
 record Inside (T : ℕ) (w : Walk) : Type 0 where
   triangle : 0 < w.points → w.triangle < T
-  zero-or-below : (w.triangle ≡ 0) ⊎ (w.triangle < T)
+  zero_or_below : (w.triangle ≡ 0) ⊎ (w.triangle < T)
   edge : w.edge ≤ 3
 
 inside : (c : Task) → Sized c → (p : ℕ) → Inside (triangle_count c) (at c p).trail.walk
 inside c s =
-    trail_ind c (λ (t : Trail). Inside (triangle_count c) t.walk) (record { triangle = λ (z : 0 < 0). absurd (omega arith); zero-or-below = inl refl; edge = omega arith })
+    trail_ind c (λ (t : Trail). Inside (triangle_count c) t.walk) (record { triangle = λ (z : 0 < 0). absurd (omega arith); zero_or_below = inl refl; edge = omega arith })
     (λ (us : List Float).
     starting_elim (λ (t : Trail). Inside (triangle_count c) t.walk) c us
-    (λ (q : Point) (t e : ℕ) (h : t < triangle_count c) (k : e ≤ 3). record { triangle = λ (z : 0 < 1). h; zero-or-below = inr h; edge = k })
-    (λ (k : ℕ) (n : 0 < k) (m : k ≤ 9). record { triangle = λ (z : 0 < 0). absurd (omega arith); zero-or-below = inl refl; edge = omega arith }))
+    (λ (q : Point) (t e : ℕ) (h : t < triangle_count c) (k : e ≤ 3). record { triangle = λ (z : 0 < 1). h; zero_or_below = inr h; edge = k })
+    (λ (k : ℕ) (n : 0 < k) (m : k ≤ 9). record { triangle = λ (z : 0 < 0). absurd (omega arith); zero_or_below = inl refl; edge = omega arith }))
     (λ (us : List Float) (t : Trail) (h : 0 < t.walk.points) (ih : Inside (triangle_count c) t.walk).
-    let w : Stands (triangle_count c) (crossing_pass c us t).walk = crossing_walk c s us t (record { triangle_below = ih.triangle h; edge-most = ih.edge }) in
-    record { triangle = λ (z : 0 < (crossing_pass c us t).walk.points). w.triangle_below; zero-or-below = inr w.triangle_below; edge = w.edge-most })
+    let w : Stands (triangle_count c) (crossing_pass c us t).walk = crossing_walk c s us t (record { triangle_below = ih.triangle h; edge_most = ih.edge }) in
+    record { triangle = λ (z : 0 < (crossing_pass c us t).walk.points). w.triangle_below; zero_or_below = inr w.triangle_below; edge = w.edge-most })
 
 pub walk_triangle : (c : Task) → Sized c → (p : ℕ) → 0 < (at c p).trail.walk.points → (at c p).trail.walk.triangle < triangle_count c
 walk_triangle c s p h = (inside c s p).triangle h
 
 pub walk_zero_or_below : (c : Task) → Sized c → (p : ℕ) → ((at c p).trail.walk.triangle ≡ 0) ⊎ ((at c p).trail.walk.triangle < triangle_count c)
-walk_zero_or_below c s p = (inside c s p).zero-or-below
+walk_zero_or_below c s p = (inside c s p).zero_or_below
 
 pub walk_edge : (c : Task) → Sized c → (p : ℕ) → (at c p).trail.walk.edge ≤ 3
 walk_edge c s p = (inside c s p).edge

@@ -160,13 +160,13 @@ pub s2_room_4 : shown (s2 4) ≡ record {
 unfolding shown
 s2_room_4 = refl
 
-pub s2-read_5 : sheet_read (s2 5) ≡ accepted (s2 5)
+pub s2_read_5 : sheet_read (s2 5) ≡ accepted (s2 5)
 unfolding sheet_read
-s2-read_5 = refl
+s2_read_5 = refl
 
-pub s2-read_4 : sheet_read (s2 4) ≡ accepted (s2 4)
+pub s2_read_4 : sheet_read (s2 4) ≡ accepted (s2 4)
 unfolding sheet_read
-s2-read_4 = refl
+s2_read_4 = refl
 
 -- ---- S3
 

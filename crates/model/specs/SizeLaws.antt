@@ -12,7 +12,7 @@ use Rattle.binary64.specs.Number.{pick, abs_of}
 use Rattle.binary64.specs.Root.{root}
 use Rattle.plane.specs.declared.Point.{Point}
 use Rattle.stretch.specs.Vec.{dot, plus, less}
-use Rattle.stretch.specs.VecLaws.{length-zip}
+use Rattle.stretch.specs.VecLaws.{length_zip}
 use Rattle.sparse.specs.Sparse.{Entry, mat_vec}
 use Rattle.sparse.specs.ProductLaws.{length-mat_vec}
 use Rattle.mesh.specs.Mesh.{neighbour, no_neighbour, free, held}
@@ -21,7 +21,7 @@ use Rattle.laplace.specs.Assembly.{Push, pushes, row, rows, lowered, coupled, al
 use Rattle.conjugate.specs.Solver as Solver
 use Rattle.conjugate.specs.Solver.{Solve, Turn, halted, reached, moved, begun}
 use Rattle.gradient.specs.Gradient.{gradients}
-use Rattle.pde.specs.Bounds.{Neighbouring, crossing-in}
+use Rattle.pde.specs.Bounds.{Neighbouring, crossing_in_lem}
 use Rattle.pde.specs.PathLaws.{Stands, walked_more, walked-most, walked_stands}
 use Rattle.format.specs.Content.{Content, max_limit, max_room, default_limit, whole_or}
 use Rattle.format.specs.Range.{InRange, OfWhole, Between}
@@ -53,8 +53,8 @@ sized_of default d c h =
       tags = h.tagged;
       corners = h.corners;
       in_range = h.neighbours;
-      vertices-most = h.vertices;
-      triangles-most = h.triangles;
+      vertices_most = h.vertices;
+      triangles_most = h.triangles;
       limit-most = limit_given default d c.settings.limit h.limit;
       room = r.least;
       room_most = r.greatest;
@@ -102,7 +102,7 @@ right_length c =
     ∙ length-replicate (vertex_count c) plus_zero
 
 zipped : (f : Float → Float → Float) (us vs : List Float) (n : ℕ) → length us ≡ n → length vs ≡ n → length (zip_with f us vs) ≡ n
-zipped f us vs n h k = length-zip f us vs (h ∙ sym k) ∙ h
+zipped f us vs n h k = length_zip f us vs (h ∙ sym k) ∙ h
 
 pub begun_vectors : (a : List (List Entry)) (b : List Float) (n : ℕ) → length a ≡ n → length b ≡ n → Vectors n (begun a b)
 unfolding begun
@@ -133,19 +133,19 @@ handed n tiny a tolerance s e v = go (lt (abs_of pap) tiny) (lt (root (dot r r))
     r : List Float
     r = zip_with (less (s.rs ⊘ pap)) s.r q
 
-    long-x : length x ≡ n
-    long-x = zipped (plus (s.rs ⊘ pap)) s.x s.p n v.x v.p
+    long_x : length x ≡ n
+    long_x = zipped (plus (s.rs ⊘ pap)) s.x s.p n v.x v.p
 
-    long-r : length r ≡ n
-    long-r = zipped (less (s.rs ⊘ pap)) s.r q n v.r (length-mat_vec a s.p ∙ e)
+    long_r : length r ≡ n
+    long_r = zipped (less (s.rs ⊘ pap)) s.r q n v.r (length-mat_vec a s.p ∙ e)
 
     next : Solve
     next = record { x = x; r = r; p = zip_with (plus (dot r r ⊘ s.rs)) r s.p; rs = dot r r }
 
     go : (t u : Bool) → Handed n (pick t halted (pick u (reached x r (root (dot r r))) (moved next (root (dot r r)))))
     go true u = tt
-    go false true = (long-x, long-r)
-    go false false = record { x = long-x; r = long-r; p = zipped (plus (dot r r ⊘ s.rs)) r s.p n long-r v.p }
+    go false true = (long_x, long_r)
+    go false false = record { x = long_x; r = long_r; p = zipped (plus (dot r r ⊘ s.rs)) r s.p n long_r v.p }
 
 solved_vectors : (n limit : ℕ) (f : Field) (t : Turn) → Vectors n f.solve → Handed n t → Vectors n (solved limit f t).solve
 unfolding solved
@@ -190,7 +190,7 @@ pub crossing_walk : (c : Task) → Sized c → (us : List Float) (t : Trail) →
 unfolding crossing_pass crossed
 crossing_walk c s us t h =
     walked_stands c.room (eqb (t.crossings + 1) (factor * triangle_count c)) (triangle_count c) t.walk _
-    (crossing-in rule c.vertices c.triangles c.neighbours (triangle_count c) us (neighbouring c s) t.gradients c.step t.walk.position t.walk.triangle t.walk.edge h.triangle_below) h
+    (crossing_in_lem rule c.vertices c.triangles c.neighbours (triangle_count c) us (neighbouring c s) t.gradients c.step t.walk.position t.walk.triangle t.walk.edge h.triangle_below) h
 
 -- the path after a crossing begins with the path before it
 pub crossing_path : (c : Task) (us : List Float) (t : Trail) → (more : List Point) × ((crossing_pass c us t).path ≡ t.path ++ more)

@@ -15,8 +15,8 @@ pub record Sized (c : Task) : Type 0 where
   pub corners : (i : ℕ) → i < length c.triangles → get_or c.triangles i 0 < vertex_count c
   pub in_range : (i : ℕ) → i < length c.neighbours → (get_or c.neighbours i 0 ≡ no_neighbour) ⊎ (get_or c.neighbours i 0 < triangle_count c)
   -- the counts are within the sheet's limits
-  pub vertices-most : vertex_count c ≤ max_vertices
-  pub triangles-most : triangle_count c ≤ max_triangles
+  pub vertices_most : vertex_count c ≤ max_vertices
+  pub triangles_most : triangle_count c ≤ max_triangles
   pub limit-most : c.limit ≤ max_limit
   pub room : 1 ≤ c.room
   pub room_most : c.room ≤ max_room

@@ -12,13 +12,13 @@ use lib.Ieee.{Float}
 use Rattle.binary64.specs.Constants.{plus_zero}
 use Rattle.plane.specs.declared.Point.{Point}
 use Rattle.stretch.specs.Stretch.{part, splice}
-use Rattle.stretch.specs.StretchLaws.{part-zero, part-all, part-add, part-cons, splice-nil}
+use Rattle.stretch.specs.StretchLaws.{part_zero, part_all, part_add, part_cons, splice_nil}
 use Rattle.stretch.specs.LoopLaws.{write_step}
 use Rattle.format.specs.Content.{Content, vertex_count, triangle_count}
 use Rattle.format.specs.Sheet.{content_of}
 use Rattle.sheet.specs.declared.Header.{Header}
 use Rattle.sheet.specs.Answer.{header_of}
-use Rattle.sheet.specs.ItemLaws.{vertex-item, corner-item, neighbour-item, tag-item}
+use Rattle.sheet.specs.ItemLaws.{vertex_item, corner_item, neighbour_item, tag_item}
 use Rattle.model.specs.Task.{task_of, task}
 use Rattle.image.specs.Opening.{joined, vertex_read, number_read, tag_read, vertices_read, numbers_read, tags_read, Read, Loaded}
 
@@ -34,9 +34,9 @@ module _ {A : Type 0} where
 
   -- ---- the loops
 
-  pub put-none : (s : List A) (at : ℕ) (f : ℕ → List A) → s ≡ splice s at (joined f 0)
+  pub put_none : (s : List A) (at : ℕ) (f : ℕ → List A) → s ≡ splice s at (joined f 0)
   unfolding joined
-  put-none s at f = sym (splice-nil s at)
+  put_none s at f = sym (splice_nil s at)
 
   -- items of one element
   pub put_one : (s l : List A) (at i : ℕ) (f : ℕ → A) (v : A) → v ≡ f i → l ≡ splice s at (joined (λ j. f j ∷ []) i) → set l (at + i) v ≡ splice s at (joined (λ j. f j ∷ []) (i + 1))
@@ -59,19 +59,19 @@ module _ {A : Type 0} where
 
   joined-front : (w : ℕ) (f : ℕ → List A) (l : List A) (k : ℕ) → ((i : ℕ) → i < k → f i ≡ part l (w * i) w) → (j : ℕ) → j ≤ k → joined f j ≡ part l 0 (w * j)
   unfolding joined
-  joined-front w f l k h zero q = let e : w * 0 ≡ 0 = omega arith in rw e (sym (part-zero l 0))
+  joined-front w f l k h zero q = let e : w * 0 ≡ 0 = omega arith in rw e (sym (part_zero l 0))
   joined-front w f l k h (suc j) q =
       let e : w * suc j ≡ w * j + w = omega arith in
-      rw (joined-front w f l k h j (omega arith), h j (omega arith), e) (ap (λ (x : ℕ). part l 0 (w * j) ++ part l x w) (sym (zero-add (w * j))) ∙ sym (part-add l 0 (w * j) w))
+      rw (joined-front w f l k h j (omega arith), h j (omega arith), e) (ap (λ (x : ℕ). part l 0 (w * j) ++ part l x w) (sym (zero-add (w * j))) ∙ sym (part_add l 0 (w * j) w))
 
   pub joined_is : (w : ℕ) (f : ℕ → List A) (l : List A) (k : ℕ) → length l ≡ w * k → ((i : ℕ) → i < k → f i ≡ part l (w * i) w) → joined f k ≡ l
-  joined_is w f l k e h = joined-front w f l k h k (omega arith) ∙ part-all l (w * k) (omega arith)
+  joined_is w f l k e h = joined-front w f l k h k (omega arith) ∙ part_all l (w * k) (omega arith)
 
   one_of : (l : List A) (i : ℕ) (d : A) → i < length l → part l (1 * i) 1 ≡ get_or l i d ∷ []
-  one_of l i d h = let e : 1 * i ≡ i = omega arith in rw e (part-cons l i 0 d h ∙ rw part-zero)
+  one_of l i d h = let e : 1 * i ≡ i = omega arith in rw e (part_cons l i 0 d h ∙ rw part_zero)
 
-  two-of : (l : List A) (i : ℕ) (d : A) → 2 * i + 1 < length l → part l (2 * i) 2 ≡ get_or l (2 * i) d ∷ get_or l (2 * i + 1) d ∷ []
-  two-of l i d h = part-cons l (2 * i) 1 d (omega arith) ∙ rw (part-cons l (suc (2 * i)) 0 d (omega arith), part-zero, add-one (2 * i))
+  two_of : (l : List A) (i : ℕ) (d : A) → 2 * i + 1 < length l → part l (2 * i) 2 ≡ get_or l (2 * i) d ∷ get_or l (2 * i + 1) d ∷ []
+  two_of l i d h = part_cons l (2 * i) 1 d (omega arith) ∙ rw (part_cons l (suc (2 * i)) 0 d (omega arith), part_zero, add-one (2 * i))
 
 -- ---- the sections of an accepted sheet
 
@@ -86,29 +86,29 @@ module _ (sheet : List ℕ) (h : Header) (read : Read sheet h) where
   abbrev c : Content
   c = content_of sheet
 
-  vertices-read : vertices_read (from sheet h.vertices) h.n ≡ c.vertices
-  vertices-read =
+  vertices_read_lem : vertices_read (from sheet h.vertices) h.n ≡ c.vertices
+  vertices_read_lem =
       rw (read.is.header, from_is sheet (header_of c).vertices)
       (joined_is 2 (vertex_read (drop (header_of c).vertices sheet)) c.vertices (vertex_count c) read.good.pairs
-      (λ i k. ap (λ (p : Point). p.x ∷ p.y ∷ []) (vertex-item sheet c read.is.parsed i k) ∙ sym (two-of c.vertices i plus_zero (omega (arith, read.good.pairs)))))
+      (λ i k. ap (λ (p : Point). p.x ∷ p.y ∷ []) (vertex_item sheet c read.is.parsed i k) ∙ sym (two_of c.vertices i plus_zero (omega (arith, read.good.pairs)))))
 
-  triangles-read : numbers_read (from sheet h.triangles) (3 * h.t) ≡ c.triangles
-  triangles-read =
+  triangles_read : numbers_read (from sheet h.triangles) (3 * h.t) ≡ c.triangles
+  triangles_read =
       rw (read.is.header, from_is sheet (header_of c).triangles)
       (joined_is 1 (number_read (drop (header_of c).triangles sheet)) c.triangles (3 * triangle_count c) (omega (arith, read.good.triples))
-      (λ i k. ap (λ (x : ℕ). x ∷ []) (corner-item sheet c read.is.parsed i k) ∙ sym (one_of c.triangles i 0 (omega (arith, read.good.triples)))))
+      (λ i k. ap (λ (x : ℕ). x ∷ []) (corner_item sheet c read.is.parsed i k) ∙ sym (one_of c.triangles i 0 (omega (arith, read.good.triples)))))
 
-  neighbours-read : numbers_read (from sheet h.neighbours) (3 * h.t) ≡ c.neighbours
-  neighbours-read =
+  neighbours_read : numbers_read (from sheet h.neighbours) (3 * h.t) ≡ c.neighbours
+  neighbours_read =
       rw (read.is.header, from_is sheet (header_of c).neighbours)
       (joined_is 1 (number_read (drop (header_of c).neighbours sheet)) c.neighbours (3 * triangle_count c) (omega (arith, read.good.edges))
-      (λ i k. ap (λ (x : ℕ). x ∷ []) (neighbour-item sheet c read.is.parsed i k) ∙ sym (one_of c.neighbours i 0 (omega (arith, read.good.edges)))))
+      (λ i k. ap (λ (x : ℕ). x ∷ []) (neighbour_item sheet c read.is.parsed i k) ∙ sym (one_of c.neighbours i 0 (omega (arith, read.good.edges)))))
 
-  tags-read : tags_read (from sheet h.tags) h.n ≡ c.tags
-  tags-read =
+  tags_read_lem : tags_read (from sheet h.tags) h.n ≡ c.tags
+  tags_read_lem =
       rw (read.is.header, from_is sheet (header_of c).tags)
       (joined_is 1 (tag_read (drop (header_of c).tags sheet)) c.tags (vertex_count c) (omega (arith, read.good.tagged))
-      (λ i k. ap (λ (x : ℕ). x ∷ []) (tag-item sheet c read.is.parsed i k) ∙ sym (one_of c.tags i 0 (omega (arith, read.good.tagged)))))
+      (λ i k. ap (λ (x : ℕ). x ∷ []) (tag_item sheet c read.is.parsed i k) ∙ sym (one_of c.tags i 0 (omega (arith, read.good.tagged)))))
 
   -- so what the four loops leave is the mesh of the content's task
   pub loaded : (floats floats' : List Float) (words words₁ words₂ words' : List ℕ) → floats' ≡ splice floats 0 (vertices_read (from sheet h.vertices) h.n)
@@ -120,6 +120,6 @@ module _ (sheet : List ℕ) (h : Header) (read : Read sheet h) where
   loaded floats floats' words words₁ words₂ words' ev e1 e2 e3 =
       let t : h.t ≡ triangle_count c = ap (λ (x : Header). x.t) read.is.header in
       record {
-        floats-are = ev ∙ ap (λ (x : List Float). splice floats 0 x) vertices-read;
-        words_are = e3 ∙ rw (tags-read, e2, neighbours-read, e1, triangles-read, t);
+        floats_are = ev ∙ ap (λ (x : List Float). splice floats 0 x) vertices_read_lem;
+        words_are = e3 ∙ rw (tags_read_lem, e2, neighbours_read, e1, triangles_read, t);
       }

@@ -11,7 +11,7 @@ use Rattle.binary64.specs.Arith.{◌⊘◌}
 use Rattle.binary64.specs.Constants.{plus_zero, one}
 use Rattle.mesh.specs.Mesh.{corner, neighbour, onward}
 use Rattle.pde.specs.Search.{first_of}
-use Rattle.pde.specs.SearchLaws.{left_of, left-all, left-enter, left-skip, left-found, left-done}
+use Rattle.pde.specs.SearchLaws.{left_of, left-all, left_enter, left_skip, left_found, left_done}
 use Rattle.pde.specs.declared.Side.{Side}
 use Rattle.binary64.specs.Root.{root}
 use Rattle.plane.specs.declared.Point.{Point}
@@ -27,17 +27,17 @@ or_assoc (Side.Of t e) b rest = refl
 or_assoc Side.Nothing b rest = refl
 
 module _ {w : Side} (rest : Side) (f : ℕ → Side) (i n : ℕ) where
-  pub side-skip : i < n → f i ≡ Side.Nothing → w ≡ side_left rest f i n → w ≡ side_left rest f (i + 1) n
+  pub side_skip : i < n → f i ≡ Side.Nothing → w ≡ side_left rest f i n → w ≡ side_left rest f (i + 1) n
   unfolding side_left
-  side-skip h e p = left-skip or_side rest f i n Side.Nothing (λ s. refl) h e p
+  side_skip h e p = left_skip or_side rest f i n Side.Nothing (λ s. refl) h e p
 
-  pub side-found : {t e : ℕ} → i < n → f i ≡ Side.Of t e → w ≡ side_left rest f i n → Side.Of t e ≡ w
+  pub side_found : {t e : ℕ} → i < n → f i ≡ Side.Of t e → w ≡ side_left rest f i n → Side.Of t e ≡ w
   unfolding side_left
-  side-found {t} {e} h q p = left-found or_side rest f i n (Side.Of t e) (λ s. refl) h q p
+  side_found {t} {e} h q p = left_found or_side rest f i n (Side.Of t e) (λ s. refl) h q p
 
-  pub side-done : n ≤ i → w ≡ side_left rest f i n → w ≡ rest
+  pub side_done : n ≤ i → w ≡ side_left rest f i n → w ≡ rest
   unfolding side_left
-  side-done h p = left-done or_side rest f i n h p
+  side_done h p = left_done or_side rest f i n h p
 
 -- ---- the edge that names a triangle back
 
@@ -62,29 +62,29 @@ cut_all ts ns count here e a b p q = rw (p, q) (left-all or_side Side.Nothing (c
 
 module _ (ts ns : List ℕ) (here a b : ℕ) where
   -- the triangle itself is not looked at
-  pub cut-here : (t : ℕ) → t ≡ here → cut_triangle ts ns here a b t ≡ Side.Nothing
+  pub cut_here : (t : ℕ) → t ≡ here → cut_triangle ts ns here a b t ≡ Side.Nothing
   unfolding cut_triangle
-  cut-here t h = rw (eq-eqb _ _ h)
+  cut_here t h = rw (eq-eqb _ _ h)
 
   -- into another triangle's edges
   edges : (t : ℕ) → (t ≡ here → ⊥) → cut_triangle ts ns here a b t ≡ first_of or_side Side.Nothing (cut_edge ts ns a b t) 0 3
   unfolding cut_triangle
   edges t other = rw (ne_eqb _ _ other)
 
-  pub cut-enter : {w : Side} (rest : Side) (t n : ℕ) → t < n → (t ≡ here → ⊥) → w ≡ side_left rest (cut_triangle ts ns here a b) t n
+  pub cut_enter : {w : Side} (rest : Side) (t n : ℕ) → t < n → (t ≡ here → ⊥) → w ≡ side_left rest (cut_triangle ts ns here a b) t n
       → w ≡ side_left (side_left rest (cut_triangle ts ns here a b) (t + 1) n) (cut_edge ts ns a b t) 0 3
   unfolding side_left
-  cut-enter rest t n h other p =
-      left-enter or_side Side.Nothing (λ s. refl) or_assoc rest (cut_triangle ts ns here a b) (cut_edge ts ns a b t) t n 3 h (edges t other) p
+  cut_enter rest t n h other p =
+      left_enter or_side Side.Nothing (λ s. refl) or_assoc rest (cut_triangle ts ns here a b) (cut_edge ts ns a b t) t n 3 h (edges t other) p
 
 module _ (ts ns : List ℕ) (a b t e : ℕ) where
-  pub cut-found : is_cut ts ns a b t e ≡ true → cut_edge ts ns a b t e ≡ Side.Of t e
+  pub cut_found : is_cut ts ns a b t e ≡ true → cut_edge ts ns a b t e ≡ Side.Of t e
   unfolding cut_edge
-  cut-found h = rw h
+  cut_found h = rw h
 
-  pub cut-not : is_cut ts ns a b t e ≡ false → cut_edge ts ns a b t e ≡ Side.Nothing
+  pub cut_not : is_cut ts ns a b t e ≡ false → cut_edge ts ns a b t e ≡ Side.Nothing
   unfolding cut_edge
-  cut-not h = rw h
+  cut_not h = rw h
 
 -- ---- the exit
 
@@ -94,13 +94,13 @@ unfolding div of_bits
 infinite = refl
 
 module _ (least : Float) (vs : List Float) (ts : List ℕ) (t : ℕ) (pos dir : Point) (entry : ℕ) where
-  pub nearest-none : nearest (root (one ⊘ plus_zero)) Exit.Nothing ≡ nearest_of least vs ts t pos dir entry 0
+  pub nearest_none : nearest (root (one ⊘ plus_zero)) Exit.Nothing ≡ nearest_of least vs ts t pos dir entry 0
   unfolding nearest_of root
-  nearest-none = rw infinite
+  nearest_none = rw infinite
 
-  pub nearest-step : (e : ℕ) {best next : Nearest} → next ≡ considered least vs ts t pos dir entry e best → best ≡ nearest_of least vs ts t pos dir entry e → next ≡ nearest_of least vs ts t pos dir entry (e + 1)
+  pub nearest_step : (e : ℕ) {best next : Nearest} → next ≡ considered least vs ts t pos dir entry e best → best ≡ nearest_of least vs ts t pos dir entry e → next ≡ nearest_of least vs ts t pos dir entry (e + 1)
   unfolding nearest_of
-  nearest-step e h b = rw (add-one, ← b) h
+  nearest_step e h b = rw (add-one, ← b) h
 
-  pub nearest-done : {e : ℕ} {best : Nearest} → 3 ≤ e → e ≤ 3 → best ≡ nearest_of least vs ts t pos dir entry e → best ≡ nearest_of least vs ts t pos dir entry 3
-  nearest-done {e} l m b = let h : e ≡ 3 = omega arith in rw h at b
+  pub nearest_done : {e : ℕ} {best : Nearest} → 3 ≤ e → e ≤ 3 → best ≡ nearest_of least vs ts t pos dir entry e → best ≡ nearest_of least vs ts t pos dir entry 3
+  nearest_done {e} l m b = let h : e ≡ 3 = omega arith in rw h at b

@@ -20,20 +20,20 @@ use Rattle.pde.specs.Bounds.{SideIn, Neighbouring, exit_far, cut_in, entry_in}
 
 module _ (rule : Rule) (vs : List Float) (ts ns : List ℕ) (count : ℕ) (us : List Float) (g : Point) (step : Float) (pos : Point) (t entry : ℕ) {dir : Point} {mag : Float} {best : Nearest}
     (ism : mag ≡ magnitude g) (bright : lt mag rule.dull ≡ false) (isd : dir ≡ direction step g mag) (isb : best ≡ nearest_of rule.dull vs ts t pos dir entry 3) where
-  to-left : crossing_along rule vs ts ns count us g step pos t entry ≡ left rule vs ts ns count us pos t best.exit
+  to_left : crossing_along rule vs ts ns count us g step pos t entry ≡ left rule vs ts ns count us pos t best.exit
   unfolding crossing_along
-  to-left = rw (← ism, bright, ← isd) (ap (λ (n : Nearest). left rule vs ts ns count us pos t n.exit) (sym isb))
+  to_left = rw (← ism, bright, ← isd) (ap (λ (n : Nearest). left rule vs ts ns count us pos t n.exit) (sym isb))
 
-  pub crossing-stuck : best.exit ≡ Exit.Nothing → Crossing.Stuck ≡ crossing_along rule vs ts ns count us g step pos t entry
-  crossing-stuck e = sym (to-left ∙ ap (left rule vs ts ns count us pos t) e)
+  pub crossing_stuck : best.exit ≡ Exit.Nothing → Crossing.Stuck ≡ crossing_along rule vs ts ns count us g step pos t entry
+  crossing_stuck e = sym (to_left ∙ ap (left rule vs ts ns count us pos t) e)
 
-  far-away : {e : ℕ} {p : Point} → best.exit ≡ Exit.Through e p → best.far ≡ distance pos p
-  far-away h = rw isb (exit_far rule.dull vs ts t pos dir entry 3 (rw isb at h))
+  far_away : {e : ℕ} {p : Point} → best.exit ≡ Exit.Through e p → best.far ≡ distance pos p
+  far_away h = rw isb (exit_far rule.dull vs ts t pos dir entry 3 (rw isb at h))
 
-  pub crossing-leaves : {e n : ℕ} {p : Point} {b : Beyond} → best.exit ≡ Exit.Through e p → n ≡ ceil_count (best.far ⊘ rule.spacing) → b ≡ beyond rule.above vs ts ns count us t e p
+  pub crossing_leaves : {e n : ℕ} {p : Point} {b : Beyond} → best.exit ≡ Exit.Through e p → n ≡ ceil_count (best.far ⊘ rule.spacing) → b ≡ beyond rule.above vs ts ns count us t e p
       → Crossing.Leaves p n b ≡ crossing_along rule vs ts ns count us g step pos t entry
   unfolding pieces
-  crossing-leaves {e} {n} {p} {b} h isn isb' = sym (to-left ∙ ap (left rule vs ts ns count us pos t) h ∙ rw (← far-away h, ← isn, ← isb') refl)
+  crossing_leaves {e} {n} {p} {b} h isn isb' = sym (to_left ∙ ap (left rule vs ts ns count us pos t) h ∙ rw (← far_away h, ← isn, ← isb') refl)
 
 -- ---- the edge that is entered
 
@@ -42,8 +42,8 @@ module _ (ts ns : List ℕ) (n t e next : ℕ) (r : Side) where
   unfolding entered
   entered-cut is none h = (rw (← is, eq-eqb next no_neighbour none) h, rw h (cut_in ts ns n t e))
 
-  pub entered-back : Neighbouring ns n → t < n → e < 3 → next ≡ neighbour ns t e → (next ≡ no_neighbour → ⊥) → {w : ℕ} → w ≡ next → r ≡ entry_edge ns w t → (r ≡ entered ts ns n t e) × (SideIn n r)
+  pub entered_back : Neighbouring ns n → t < n → e < 3 → next ≡ neighbour ns t e → (next ≡ no_neighbour → ⊥) → {w : ℕ} → w ≡ next → r ≡ entry_edge ns w t → (r ≡ entered ts ns n t e) × (SideIn n r)
   unfolding entered
-  entered-back inside below edge is some {w} wide h =
+  entered_back inside below edge is some {w} wide h =
       let h' : r ≡ entry_edge ns next t = rw wide at h in
       (rw (← is, ne_eqb next no_neighbour some) h', rw h' (entry_in ns n next t (rw is (inside t e below edge (λ x. some (is ∙ x))))))

@@ -192,13 +192,13 @@ module _ (rule : Rule) (vs : List Float) (ts ns : List ℕ) (n : ℕ) (us : List
   left_in pos t (Exit.Through e p) h k = entering_in n rule.above vs ts us p _ _ (entered_in ts ns n inside t e h k) (unentered_in n _)
   left_in pos t Exit.Nothing h k = tt
 
-  pub along-in : (g : Point) (step : Float) (pos : Point) (t entry : ℕ) → t < n → CrossingIn n (crossing_along rule vs ts ns n us g step pos t entry)
+  pub along_in : (g : Point) (step : Float) (pos : Point) (t entry : ℕ) → t < n → CrossingIn n (crossing_along rule vs ts ns n us g step pos t entry)
   unfolding crossing_along
-  along-in g step pos t entry h =
+  along_in g step pos t entry h =
       let mag = magnitude g in
       let exit = exit_edge rule.dull vs ts t pos (direction step g mag) entry in
       pick_in (CrossingIn n) (lt mag rule.dull) Crossing.Dull (left rule vs ts ns n us pos t exit) (λ _. tt) (λ _. left_in pos t exit h (exit_in rule.dull vs ts t pos _ entry))
 
-  pub crossing-in : (gs : List Float) (step : Float) (pos : Point) (t entry : ℕ) → t < n → CrossingIn n (crossing rule vs ts ns n us gs step pos t entry)
+  pub crossing_in_lem : (gs : List Float) (step : Float) (pos : Point) (t entry : ℕ) → t < n → CrossingIn n (crossing rule vs ts ns n us gs step pos t entry)
   unfolding crossing
-  crossing-in gs step pos t entry h = along-in (gradient_at gs t) step pos t entry h
+  crossing_in_lem gs step pos t entry h = along_in (gradient_at gs t) step pos t entry h

@@ -88,20 +88,20 @@ walked-most room last w (Crossing.Leaves q n b) h = by (ltb room (w.points + k))
 -- in a triangle of the mesh, entered by one of its edges or by none
 pub record Stands (n : ℕ) (w : Walk) : Type 0 where
   pub triangle_below : w.triangle < n
-  pub edge-most : w.edge ≤ 3
+  pub edge_most : w.edge ≤ 3
 
 pub walked_stands : (room : ℕ) (last : Bool) (t : ℕ) (w : Walk) (c : Crossing) → CrossingIn t c → Stands t w → Stands t (walked room last w c)
 unfolding walked
-walked_stands room last t w Crossing.Dull i s = record { triangle_below = s.triangle_below; edge-most = s.edge-most }
-walked_stands room last t w Crossing.Stuck i s = record { triangle_below = s.triangle_below; edge-most = s.edge-most }
+walked_stands room last t w Crossing.Dull i s = record { triangle_below = s.triangle_below; edge_most = s.edge_most }
+walked_stands room last t w Crossing.Stuck i s = record { triangle_below = s.triangle_below; edge_most = s.edge_most }
 walked_stands room last t w (Crossing.Leaves q n b) i s = by (ltb room (w.points + k)) b i
   where
     k : ℕ
     k = n - 1 + closes b
 
     by : (full : Bool) (b : Beyond) → BeyondIn t b → Stands t (pick full (ended w 7) (gone last w q b k))
-    by true b i = record { triangle_below = s.triangle_below; edge-most = s.edge-most }
-    by false Beyond.Border i = record { triangle_below = s.triangle_below; edge-most = s.edge-most }
-    by false Beyond.Unnamed i = record { triangle_below = s.triangle_below; edge-most = s.edge-most }
-    by false Beyond.Above i = record { triangle_below = s.triangle_below; edge-most = s.edge-most }
-    by false (Beyond.Into t' e) i = record { triangle_below = i.0; edge-most = omega (arith, i.1) }
+    by true b i = record { triangle_below = s.triangle_below; edge_most = s.edge_most }
+    by false Beyond.Border i = record { triangle_below = s.triangle_below; edge_most = s.edge_most }
+    by false Beyond.Unnamed i = record { triangle_below = s.triangle_below; edge_most = s.edge_most }
+    by false Beyond.Above i = record { triangle_below = s.triangle_below; edge_most = s.edge_most }
+    by false (Beyond.Into t' e) i = record { triangle_below = i.0; edge_most = omega (arith, i.1) }

@@ -19,32 +19,32 @@ module _ {A : Type 0} (or_else : A → A → A) where
   unfolding left_of first_of
   left_step rest f i n h = let e : n - i ≡ suc (n - suc i) = omega arith in rw (e, add-one)
 
-  then-rest : (none rest : A) (f : ℕ → A) → or_else none rest ≡ rest → ((a b : A) → or_else (or_else a b) rest ≡ or_else a (or_else b rest)) → (i k : ℕ)
+  then_rest : (none rest : A) (f : ℕ → A) → or_else none rest ≡ rest → ((a b : A) → or_else (or_else a b) rest ≡ or_else a (or_else b rest)) → (i k : ℕ)
       → or_else (first_of or_else none f i k) rest ≡ first_of or_else rest f i k
   unfolding first_of
-  then-rest none rest f e assoc i zero = e
-  then-rest none rest f e assoc i (suc k) = assoc (f i) (first_of or_else none f (suc i) k) ∙ ap (λ (s : A). or_else (f i) s) (then-rest none rest f e assoc (suc i) k)
+  then_rest none rest f e assoc i zero = e
+  then_rest none rest f e assoc i (suc k) = assoc (f i) (first_of or_else none f (suc i) k) ∙ ap (λ (s : A). or_else (f i) s) (then_rest none rest f e assoc (suc i) k)
 
   -- a search and then another answer
-  pub left-then : (none rest : A) (f : ℕ → A) → or_else none rest ≡ rest → ((a b : A) → or_else (or_else a b) rest ≡ or_else a (or_else b rest)) → (n : ℕ)
+  pub left_then : (none rest : A) (f : ℕ → A) → or_else none rest ≡ rest → ((a b : A) → or_else (or_else a b) rest ≡ or_else a (or_else b rest)) → (n : ℕ)
       → or_else (first_of or_else none f 0 n) rest ≡ left_of rest f 0 n
-  left-then none rest f e assoc n = then-rest none rest f e assoc 0 n ∙ left-all rest f n
+  left_then none rest f e assoc n = then_rest none rest f e assoc 0 n ∙ left-all rest f n
 
   -- a turn, and the end; w is the answer of the whole search
   module _ {w : A} (rest : A) (f : ℕ → A) (i n : ℕ) where
-    pub left-skip : (none : A) → ((s : A) → or_else none s ≡ s) → i < n → f i ≡ none → w ≡ left_of rest f i n → w ≡ left_of rest f (i + 1) n
-    left-skip none skips h e p = p ∙ left_step rest f i n h ∙ ap (λ (s : A). or_else s (left_of rest f (i + 1) n)) e ∙ skips (left_of rest f (i + 1) n)
+    pub left_skip : (none : A) → ((s : A) → or_else none s ≡ s) → i < n → f i ≡ none → w ≡ left_of rest f i n → w ≡ left_of rest f (i + 1) n
+    left_skip none skips h e p = p ∙ left_step rest f i n h ∙ ap (λ (s : A). or_else s (left_of rest f (i + 1) n)) e ∙ skips (left_of rest f (i + 1) n)
 
-    pub left-found : (a : A) → ((s : A) → or_else a s ≡ a) → i < n → f i ≡ a → w ≡ left_of rest f i n → a ≡ w
-    left-found a keeps h e p = sym (p ∙ left_step rest f i n h ∙ ap (λ (s : A). or_else s (left_of rest f (i + 1) n)) e ∙ keeps (left_of rest f (i + 1) n))
+    pub left_found : (a : A) → ((s : A) → or_else a s ≡ a) → i < n → f i ≡ a → w ≡ left_of rest f i n → a ≡ w
+    left_found a keeps h e p = sym (p ∙ left_step rest f i n h ∙ ap (λ (s : A). or_else s (left_of rest f (i + 1) n)) e ∙ keeps (left_of rest f (i + 1) n))
 
-    pub left-done : n ≤ i → w ≡ left_of rest f i n → w ≡ rest
+    pub left_done : n ≤ i → w ≡ left_of rest f i n → w ≡ rest
     unfolding left_of first_of
-    left-done h p = let e : n - i ≡ 0 = omega arith in rw e at p
+    left_done h p = let e : n - i ≡ 0 = omega arith in rw e at p
 
   -- a search in a turn of a search
-  pub left-enter : {w : A} (none : A) (skips : (s : A) → or_else none s ≡ s) (assoc : (a b s : A) → or_else (or_else a b) s ≡ or_else a (or_else b s)) (rest : A) (f g : ℕ → A) (i n k : ℕ)
+  pub left_enter : {w : A} (none : A) (skips : (s : A) → or_else none s ≡ s) (assoc : (a b s : A) → or_else (or_else a b) s ≡ or_else a (or_else b s)) (rest : A) (f g : ℕ → A) (i n k : ℕ)
       → i < n → f i ≡ first_of or_else none g 0 k → w ≡ left_of rest f i n → w ≡ left_of (left_of rest f (i + 1) n) g 0 k
-  left-enter none skips assoc rest f g i n k h e p =
+  left_enter none skips assoc rest f g i n k h e p =
       let next : A = left_of rest f (i + 1) n in
-      p ∙ left_step rest f i n h ∙ ap (λ (s : A). or_else s next) e ∙ left-then none next g (skips next) (λ a b. assoc a b next) k
+      p ∙ left_step rest f i n h ∙ ap (λ (s : A). or_else s next) e ∙ left_then none next g (skips next) (λ a b. assoc a b next) k

@@ -31,12 +31,12 @@ use Rattle.image.specs.Image.{run_of, image, rest_of}
 use Rattle.image.specs.Replay.{Opening, opening, opened_by, opened, Opens}
 use Rattle.image.specs.ReplayTheorem.{as_long, opened_run, refused_unopened, open_space}
 use Rattle.image.specs.Shown.{lengths_of, machine, Shown, HandedOut}
-use Rattle.image.specs.Theorem.{begun, lists-of-calls-image, as-opened, lists-from-sheet, handed-from-sheet}
+use Rattle.image.specs.Theorem.{begun, lists_of_calls_image, as_opened_lem, lists_from_sheet, handed_from_sheet}
 use Rattle.text.specs.Put.{Printed}
 use Rattle.text.specs.Text.{refused_text}
 use Rattle.printing.specs.Printed.{most_bytes, places, state_text, task_text, parsed_text, printed, at_last, parsed_buffers, printed_buffers, Prints}
 use Rattle.printing.specs.Steps.{shown_text, far, last_text, PutsLast}
-use Rattle.printing.proofs.LawsText.{printed-as}
+use Rattle.printing.proofs.LawsText.{printed_as}
 
 -- buffers of so many places
 pub as_places : (b : Buffers) → length b.floats ≡ 8192 → length b.words ≡ 16384 → length b.path ≡ 8192 → lengths_of b ≡ places
@@ -53,13 +53,13 @@ behind-all s b b' e = rw (← e) (rw (drop-length b.floats, drop-length b.words,
 -- ---- the machine
 
 module _ (c : Task) (good : Sized c) where
-  last-near : last_place c ≤ 4294967295
-  last-near = let k : _ = counted c good in omega (arith, last_bound c, k.triangles, k.limit)
+  last_near : last_place c ≤ 4294967295
+  last_near = let k : _ = counted c good in omega (arith, last_bound c, k.triangles, k.limit)
 
-  machine-last : (all : Space) → short (needs c) all ≡ 0 → machine c all (record { call = far; space = all } ∷ []) ≡ record { counter = at_last c; said = 0 ∷ [] }
+  machine_last : (all : Space) → short (needs c) all ≡ 0 → machine c all (record { call = far; space = all } ∷ []) ≡ record { counter = at_last c; said = 0 ∷ [] }
   unfolding ticks tick machine_refused
-  machine-last all space =
-      let n : last_place c ≤ 4294967295 = last-near in
+  machine_last all space =
+      let n : last_place c ≤ 4294967295 = last_near in
       let m : ahead (last_place c) 4294967295 0 ≡ last_place c = omega arith in
       let s : last_place c - 0 ≡ last_place c = omega arith in
       let z : 0 + last_place c ≡ last_place c = omega arith in
@@ -90,47 +90,47 @@ module _ (sheet : List ℕ) (bytes : Bytes sheet) (b : Buffers) (content : Conte
   held = performs advances (begun run (opened sheet b).all)
 
   -- what it shows
-  held-text : shown_text held.run held.all.floats held.all.path ≡ state_text (last_place c) (at c (last_place c))
+  held_text : shown_text held.run held.all.floats held.all.path ≡ state_text (last_place c) (at c (last_place c))
   unfolding shown_text state_text
-  held-text =
-      let m : machine c (lengths_of b) advances ≡ record { counter = at_last c; said = 0 ∷ [] } = machine-last c good (lengths_of b) space in
-      let s : Shown c (at_last c) held.run held.all = rw m at (lists-from-sheet sheet bytes b content e o advances).shown in
-      let h : HandedOut c (at_last c) held.run held.all = rw m at (handed-from-sheet sheet bytes b content e o advances) in
+  held_text =
+      let m : machine c (lengths_of b) advances ≡ record { counter = at_last c; said = 0 ∷ [] } = machine_last c good (lengths_of b) space in
+      let s : Shown c (at_last c) held.run held.all = rw m at (lists_from_sheet sheet bytes b content e o advances).shown in
+      let h : HandedOut c (at_last c) held.run held.all = rw m at (handed_from_sheet sheet bytes b content e o advances) in
       rw (s.place, s.field_end, s.path_end, h.field, h.norms, h.gradients, h.points)
 
   -- opening leaves the buffers as long as they were
-  same-lengths : lengths_of (opened sheet b).all ≡ lengths_of b
-  same-lengths = rw (opened_run sheet b content e space) (as_long c good (facts c good) b space)
+  same_lengths : lengths_of (opened sheet b).all ≡ lengths_of b
+  same_lengths = rw (opened_run sheet b content e space) (as_long c good (facts c good) b space)
 
   -- the advance is lent all there is
   lent-all : front (lengths_of b) (opened sheet b).all ≡ (opened sheet b).all
-  lent-all = front-all (lengths_of b) (opened sheet b).all same-lengths
+  lent-all = front-all (lengths_of b) (opened sheet b).all same_lengths
 
   fault_none : fault far run (opened sheet b).all ≡ 0
   unfolding performs performed
   fault_none =
-      let m : machine c (lengths_of b) advances ≡ record { counter = at_last c; said = 0 ∷ [] } = machine-last c good (lengths_of b) space in
-      let s : held.said ≡ 0 ∷ [] = rw m at (lists-from-sheet sheet bytes b content e o advances).refusals in
+      let m : machine c (lengths_of b) advances ≡ record { counter = at_last c; said = 0 ∷ [] } = machine_last c good (lengths_of b) space in
+      let s : held.said ≡ 0 ∷ [] = rw m at (lists_from_sheet sheet bytes b content e o advances).refusals in
       ap (fault far run) (sym lent-all) ∙ ap (λ (l : List ℕ). get_or l 0 0) s
 
-  run-held : run_after far run (opened sheet b).all ≡ held.run
+  run_held : run_after far run (opened sheet b).all ≡ held.run
   unfolding performs performed
-  run-held = ap (run_after far run) (sym lent-all)
+  run_held = ap (run_after far run) (sym lent-all)
 
   all_held : buffers_after far run (opened sheet b).all ≡ held.all
   unfolding performs performed
-  all_held = sym (behind-all (lengths_of b) (opened sheet b).all (buffers_after far run (opened sheet b).all) same-lengths) ∙ ap (λ (x : Buffers). behind (lengths_of b) (opened sheet b).all (buffers_after far run x)) (sym lent-all)
+  all_held = sym (behind-all (lengths_of b) (opened sheet b).all (buffers_after far run (opened sheet b).all) same_lengths) ∙ ap (λ (x : Buffers). behind (lengths_of b) (opened sheet b).all (buffers_after far run x)) (sym lent-all)
 
   -- what it leaves
-  last-held : buffers_after far run (opened sheet b).all ≡ image c (at_last c) (rest_of c b)
-  last-held =
-      let m : machine c (lengths_of b) advances ≡ record { counter = at_last c; said = 0 ∷ [] } = machine-last c good (lengths_of b) space in
-      all_held ∙ ap (λ (h : Held). (performs advances h).all) (as-opened sheet bytes b content e o advances) ∙ ap (λ (h : Held). h.all) (lists-of-calls-image c good b space advances)
+  last_held : buffers_after far run (opened sheet b).all ≡ image c (at_last c) (rest_of c b)
+  last_held =
+      let m : machine c (lengths_of b) advances ≡ record { counter = at_last c; said = 0 ∷ [] } = machine_last c good (lengths_of b) space in
+      all_held ∙ ap (λ (h : Held). (performs advances h).all) (as_opened_lem sheet bytes b content e o advances) ∙ ap (λ (h : Held). h.all) (lists_of_calls_image c good b space advances)
       ∙ ap (λ (t : Ticked). image c t.counter (rest_of c b)) m
 
-  last-state : last_text run (opened sheet b).all ≡ state_text (last_place c) (at c (last_place c))
+  last_state : last_text run (opened sheet b).all ≡ state_text (last_place c) (at c (last_place c))
   unfolding last_text
-  last-state = rw (fault_none, run-held, all_held) held-text
+  last_state = rw (fault_none, run_held, all_held) held_text
 
 -- ---- what is printed
 
@@ -165,37 +165,37 @@ module _ (b : Buffers) (long : lengths_of b ≡ places) where
 
   module _ (sheet : List ℕ) (bytes : Bytes sheet) (o : (opened sheet b).answer.refused ≡ 0) where
     -- the run is open
-    open-text : (p : Parsed) → parse sheet ≡ p → last_text (opened sheet b).answer.run (opened sheet b).all ≡ parsed_text p
-    open-text (refused j) q = absurd (refused_unopened sheet b j q o)
-    open-text (accepted c) q =
+    open_text : (p : Parsed) → parse sheet ≡ p → last_text (opened sheet b).answer.run (opened sheet b).all ≡ parsed_text p
+    open_text (refused j) q = absurd (refused_unopened sheet b j q o)
+    open_text (accepted c) q =
         let s : short (needs (task c)) (lengths_of b) ≡ 0 = open_space sheet b c q o in
-        rw (← (same_text (task c)), s) (last-state sheet bytes b c q o)
+        rw (← (same_text (task c)), s) (last_state sheet bytes b c q o)
 
-    open-held : (p : Parsed) → parse sheet ≡ p → buffers_after far (opened sheet b).answer.run (opened sheet b).all ≡ parsed_buffers p b
-    open-held (refused j) q = absurd (refused_unopened sheet b j q o)
-    open-held (accepted c) q =
+    open_held : (p : Parsed) → parse sheet ≡ p → buffers_after far (opened sheet b).answer.run (opened sheet b).all ≡ parsed_buffers p b
+    open_held (refused j) q = absurd (refused_unopened sheet b j q o)
+    open_held (accepted c) q =
         let s : short (needs (task c)) (lengths_of b) ≡ 0 = open_space sheet b c q o in
-        rw s (last-held sheet bytes b c q o)
+        rw s (last_held sheet bytes b c q o)
 
   module _ (sheet : List ℕ) (few : length sheet ≤ most_bytes) (a : Answer) (b' : Buffers) (o : Opens sheet b a b') where
     same-refused : a.refused ≡ (opened sheet b).answer.refused
     same-refused = ap (λ (x : Answer). x.refused) o.answer
 
-    pub refused-prints : {out out' : List ℕ} {r : ℕ} → (a.refused ≡ 0 → ⊥) → Printed out 0 (refused_text a.refused) r out' → Prints sheet b out r b' out'
+    pub refused_prints : {out out' : List ℕ} {r : ℕ} → (a.refused ≡ 0 → ⊥) → Printed out 0 (refused_text a.refused) r out' → Prints sheet b out r b' out'
     unfolding printed printed_buffers opened
-    refused-prints n p =
+    refused_prints n p =
         let f : (opened_by (parse sheet) b).answer.refused ≡ 0 → ⊥ = λ z. n (same-refused ∙ z) in
         record {
-          text = printed-as (printed sheet) p (rw (le-ltb most_bytes (length sheet) few) (ap refused_text same-refused ∙ refused_text_lem (parse sheet) f));
+          text = printed_as (printed sheet) p (rw (le-ltb most_bytes (length sheet) few) (ap refused_text same-refused ∙ refused_text_lem (parse sheet) f));
           held = rw (le-ltb most_bytes (length sheet) few) (o.held ∙ refused-held (parse sheet) f);
         }
 
-    pub run-prints : {out out' : List ℕ} {r : ℕ} {b'' : Buffers} → Bytes sheet → a.refused ≡ 0 → PutsLast a.run b' out r b'' out' → Prints sheet b out r b'' out'
+    pub run_prints : {out out' : List ℕ} {r : ℕ} {b'' : Buffers} → Bytes sheet → a.refused ≡ 0 → PutsLast a.run b' out r b'' out' → Prints sheet b out r b'' out'
     unfolding printed printed_buffers
-    run-prints bytes e p =
+    run_prints bytes e p =
         let f : (opened sheet b).answer.refused ≡ 0 = sym same-refused ∙ e in
         let g : a.run ≡ (opened sheet b).answer.run = ap (λ (x : Answer). x.run) o.answer in
         record {
-          text = printed-as (printed sheet) p.text (rw (le-ltb most_bytes (length sheet) few) (rw (g, o.held) (open-text sheet bytes f (parse sheet) refl)));
-          held = rw (le-ltb most_bytes (length sheet) few) (p.held ∙ rw (g, o.held) (open-held sheet bytes f (parse sheet) refl));
+          text = printed_as (printed sheet) p.text (rw (le-ltb most_bytes (length sheet) few) (rw (g, o.held) (open_text sheet bytes f (parse sheet) refl)));
+          held = rw (le-ltb most_bytes (length sheet) few) (p.held ∙ rw (g, o.held) (open_held sheet bytes f (parse sheet) refl));
         }

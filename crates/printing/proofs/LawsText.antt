@@ -73,13 +73,13 @@ shown_room r floats path out us rs gs ps a b c d h = rw (a, b, c, d) (shown-fits
 
 module _ {s l : List ℕ} {at next : ℕ} where
   -- the same text in other words
-  pub printed-as : {text : List ℕ} (other : List ℕ) → Printed s at text next l → text ≡ other → Printed s at other next l
-  printed-as other p e = rw (← e) p
+  pub printed_as : {text : List ℕ} (other : List ℕ) → Printed s at text next l → text ≡ other → Printed s at other next l
+  printed_as other p e = rw (← e) p
 
-  pub shown-put : (r : Run) (floats path us rs gs ps : List Float) → us ≡ field_of r floats → rs ≡ norms_of r floats → gs ≡ gradients_of r floats → ps ≡ points_of r path
+  pub shown_put : (r : Run) (floats path us rs gs ps : List Float) → us ≡ field_of r floats → rs ≡ norms_of r floats → gs ≡ gradients_of r floats → ps ≡ points_of r path
       → Printed s at (run_text r.stand.place r.stand.end r.stand.walk.end us rs gs ps) next l → Printed s at (shown_text r floats path) next l
   unfolding shown_text
-  shown-put r floats path us rs gs ps a b c d p = rw (← a, ← b, ← c, ← d) p
+  shown_put r floats path us rs gs ps a b c d p = rw (← a, ← b, ← c, ← d) p
 
 -- an advance that is refused, and one that is not
 pub last_refused : (r : Run) (b : Buffers) (k : ℕ) → k ≡ fault far r b → (k ≡ 0 → ⊥) → refused_text k ≡ last_text r b
@@ -94,7 +94,7 @@ last_shown r r' b b' k e z p q = rw (← e, z, p, q)
 -- too many bytes
 pub long_prints : {out out' : List ℕ} {r : ℕ} (sheet : List ℕ) (b : Buffers) → most_bytes < length sheet → Printed out 0 (refused_text 8) r out' → Prints sheet b out r b out'
 unfolding printed printed_buffers
-long_prints sheet b h p = record { text = printed-as (printed sheet) p (rw (lt-ltb most_bytes (length sheet) h)); held = rw (lt-ltb most_bytes (length sheet) h) }
+long_prints sheet b h p = record { text = printed_as (printed sheet) p (rw (lt-ltb most_bytes (length sheet) h)); held = rw (lt-ltb most_bytes (length sheet) h) }
 
 -- no more bytes than there are
 pub prints_all : {b b' : Buffers} {out out' : List ℕ} {r : ℕ} (sheet : List ℕ) (got : ℕ) → length sheet < got → Prints sheet b out r b' out' → Prints (take got sheet) b out r b' out'

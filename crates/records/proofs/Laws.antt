@@ -20,20 +20,20 @@ read_in (x ∷ l) (suc i) d e h = read_in l i d e (omega arith)
 -- ---- a start and a mark
 
 module _ (ns : List ℕ) (xs : List Float) where
-  pub given-none : {w : ℕ} → w ≡ get_or ns 4 0 → w ≡ 0 → Given.Nothing ≡ given_from ns xs
+  pub given_none : {w : ℕ} → w ≡ get_or ns 4 0 → w ≡ 0 → Given.Nothing ≡ given_from ns xs
   unfolding given_from
-  given-none e z = rw (← e, z)
+  given_none e z = rw (← e, z)
 
-  pub given-at : (w : ℕ) {x y : Float} → w ≡ get_or ns 4 0 → (w ≡ 0 → ⊥) → x ≡ get_or xs 2 plus_zero → y ≡ get_or xs 3 plus_zero → Given.At (point x y) ≡ given_from ns xs
+  pub given_at : (w : ℕ) {x y : Float} → w ≡ get_or ns 4 0 → (w ≡ 0 → ⊥) → x ≡ get_or xs 2 plus_zero → y ≡ get_or xs 3 plus_zero → Given.At (point x y) ≡ given_from ns xs
   unfolding given_from
-  given-at zero e n ex ey = absurd (n refl)
-  given-at (suc w) e n ex ey = rw (← e, ex, ey)
+  given_at zero e n ex ey = absurd (n refl)
+  given_at (suc w) e n ex ey = rw (← e, ex, ey)
 
-  pub mark-none : {w : ℕ} → w ≡ get_or ns 13 0 → w ≡ 0 → Mark.Nothing ≡ mark_from ns xs
+  pub mark_none : {w : ℕ} → w ≡ get_or ns 13 0 → w ≡ 0 → Mark.Nothing ≡ mark_from ns xs
   unfolding mark_from
-  mark-none e z = rw (← e, z)
+  mark_none e z = rw (← e, z)
 
-  pub mark-at : (w : ℕ) {p k : ℕ} {r : Float} → w ≡ get_or ns 13 0 → (w ≡ 0 → ⊥) → p ≡ get_or ns 14 0 → r ≡ get_or xs 7 plus_zero → k ≡ get_or ns 15 0 → Mark.At (record { place = p; rs = r; norms = k }) ≡ mark_from ns xs
+  pub mark_at : (w : ℕ) {p k : ℕ} {r : Float} → w ≡ get_or ns 13 0 → (w ≡ 0 → ⊥) → p ≡ get_or ns 14 0 → r ≡ get_or xs 7 plus_zero → k ≡ get_or ns 15 0 → Mark.At (record { place = p; rs = r; norms = k }) ≡ mark_from ns xs
   unfolding mark_from
-  mark-at zero e n ep er ek = absurd (n refl)
-  mark-at (suc w) e n ep er ek = rw (← e, ep, er, ek)
+  mark_at zero e n ep er ek = absurd (n refl)
+  mark_at (suc w) e n ep er ek = rw (← e, ep, er, ek)

@@ -93,14 +93,14 @@ module _ (ns : List ℕ) (xs : List Float) where
   unfolding run_from stand_from
   place_in = refl
 
-  pub passes-in : whole ns 16 ≡ (run_from ns xs).passes
+  pub passes_in : whole ns 16 ≡ (run_from ns xs).passes
   unfolding run_from
-  passes-in = refl
+  passes_in = refl
 
-  pub field-end-in : whole ns 7 ≡ (run_from ns xs).stand.end
+  pub field_end_in : whole ns 7 ≡ (run_from ns xs).stand.end
   unfolding run_from stand_from
-  field-end-in = refl
+  field_end_in = refl
 
-  pub path-end-in : whole ns 11 ≡ (run_from ns xs).stand.walk.end
+  pub path_end_in : whole ns 11 ≡ (run_from ns xs).stand.walk.end
   unfolding run_from stand_from walk_from
-  path-end-in = refl
+  path_end_in = refl

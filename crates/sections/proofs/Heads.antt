@@ -25,29 +25,29 @@ and_no true b e = e
 and_no false b e = refl
 
 module _ (low high number size : ℕ) (s : List ℕ) where
-  pub head-short : length s < 4 → 1 ≡ head_fault (within low high number) size s
-  head-short h = sym (ap (λ (k : ℕ). k then within low high number (count s) then cut (4 + size * count s) s) (cut_yes 4 s h))
+  pub head_short : length s < 4 → 1 ≡ head_fault (within low high number) size s
+  head_short h = sym (ap (λ (k : ℕ). k then within low high number (count s) then cut (4 + size * count s) s) (cut_yes 4 s h))
 
   outside : 4 ≤ length s → 0 < number → leb low (count s) && leb (count s) high ≡ false → number ≡ head_fault (within low high number) size s
   outside h z e =
       let n : number ≡ 0 → ⊥ = omega arith in
       sym (then_second _ (cut_no 4 s h) ∙ ap (λ (k : ℕ). k then cut (4 + size * count s) s) (pick_false 0 number e) ∙ then_first (cut (4 + size * count s) s) n)
 
-  pub head-low : 4 ≤ length s → 0 < number → count s < low → number ≡ head_fault (within low high number) size s
-  head-low h z l = outside h z (ap (λ (t : Bool). t && leb (count s) high) (lt-leb low (count s) l))
+  pub head_low : 4 ≤ length s → 0 < number → count s < low → number ≡ head_fault (within low high number) size s
+  head_low h z l = outside h z (ap (λ (t : Bool). t && leb (count s) high) (lt-leb low (count s) l))
 
-  pub head-high : 4 ≤ length s → 0 < number → high < count s → number ≡ head_fault (within low high number) size s
-  head-high h z l = outside h z (and_no (leb low (count s)) (leb (count s) high) (lt-leb (count s) high l))
+  pub head_high : 4 ≤ length s → 0 < number → high < count s → number ≡ head_fault (within low high number) size s
+  head_high h z l = outside h z (and_no (leb low (count s)) (leb (count s) high) (lt-leb (count s) high l))
 
   inside : (r : ℕ) → 4 ≤ length s → low ≤ count s → count s ≤ high → cut (4 + size * count s) s ≡ r → r ≡ head_fault (within low high number) size s
   inside r h l m e =
       sym (then_second _ (cut_no 4 s h) ∙ then_second _ (pick_true 0 number (and_true (le-leb low (count s) l) (le-leb (count s) high m))) ∙ e)
 
-  pub head-long : 4 ≤ length s → low ≤ count s → count s ≤ high → length s < 4 + size * count s → 1 ≡ head_fault (within low high number) size s
-  head-long h l m k = inside 1 h l m (cut_yes (4 + size * count s) s k)
+  pub head_long : 4 ≤ length s → low ≤ count s → count s ≤ high → length s < 4 + size * count s → 1 ≡ head_fault (within low high number) size s
+  head_long h l m k = inside 1 h l m (cut_yes (4 + size * count s) s k)
 
-  pub head-whole : 4 ≤ length s → low ≤ count s → count s ≤ high → 4 + size * count s ≤ length s → 0 ≡ head_fault (within low high number) size s
-  head-whole h l m k = inside 0 h l m (cut_no (4 + size * count s) s k)
+  pub head_whole : 4 ≤ length s → low ≤ count s → count s ≤ high → 4 + size * count s ≤ length s → 0 ≡ head_fault (within low high number) size s
+  head_whole h l m k = inside 0 h l m (cut_no (4 + size * count s) s k)
 
 -- ---- document 01's rules
 

@@ -57,20 +57,20 @@ module _ (m : ℕ) (s : List ℕ) where
         drop-cons (numbers 9 m s) i 0 (omega (arith, length-numbers 9 m s))
         ∙ ap₂ (λ (x n : ℕ). x ∷ drop n (numbers 9 m s)) (get_or-numbers 9 m s i h ∙ item_number s i kind value e) (sym (add-one i))
 
-    its-kind : item_kind (kind + 256 * value) ≡ kind
-    its-kind = omega (arith, e.small)
+    its_kind : item_kind (kind + 256 * value) ≡ kind
+    its_kind = omega (arith, e.small)
 
-    its-value : (kind + 256 * value) / 256 ≡ value
-    its-value = omega (arith, e.small)
+    its_value : (kind + 256 * value) / 256 ≡ value
+    its_value = omega (arith, e.small)
 
-    its-setting : item_setting (kind + 256 * value) ≡ setting_of kind value
-    its-setting = ap₂ setting_of its-kind its-value
+    its_setting : item_setting (kind + 256 * value) ≡ setting_of kind value
+    its_setting = ap₂ setting_of its_kind its_value
 
     in_turn_lem : in_turn 0 (numbers 9 m s) ≡ (pick (ltb last kind) 0 5 then setting_fault (setting_of kind value) then in_turn kind (drop (i + 1) (numbers 9 m s)))
     unfolding in_turn
     in_turn_lem =
         r.turn ∙ ap (in_turn last) head
-        ∙ ap₂ (λ (k : ℕ) (x : Setting). pick (ltb last k) 0 5 then setting_fault x then in_turn k (drop (i + 1) (numbers 9 m s))) its-kind its-setting
+        ∙ ap₂ (λ (k : ℕ) (x : Setting). pick (ltb last k) 0 5 then setting_fault x then in_turn k (drop (i + 1) (numbers 9 m s))) its_kind its_setting
 
     pub read_low : kind ≤ last → Items.Refused 5 ≡ items_read (numbers 9 m s)
     unfolding items_read
@@ -94,5 +94,5 @@ module _ (m : ℕ) (s : List ℕ) where
       said =
           r.said
           ∙ ap (λ (xs : List ℕ). gathered st (map item_setting xs)) head
-          ∙ ap (λ (y : Settings). gathered y (map item_setting (drop (i + 1) (numbers 9 m s)))) (ap (adding st) (its-setting ∙ sym p) ∙ sym a);
+          ∙ ap (λ (y : Settings). gathered y (map item_setting (drop (i + 1) (numbers 9 m s)))) (ap (adding st) (its_setting ∙ sym p) ∙ sym a);
     }

@@ -10,7 +10,7 @@ use lib.Ieee.{binary64, of_bits}
 use Rattle.format.specs.Bytes.{number, numbers}
 use Rattle.format.specs.Refusal.{each, coordinate_fault}
 use Rattle.format.specs.BytesLaws.{length-numbers, get_or-numbers, number-drop}
-use Rattle.format.specs.RefusalLaws.{Passed, passed_none, passed-more, passed-until, passed-all, each_map}
+use Rattle.format.specs.RefusalLaws.{Passed, passed_none, passed_more, passed_until, passed_all, each_map}
 
 -- no number before the i-th is refused
 pub record Scanned (f : ℕ → ℕ) (w k : ℕ) (s : List ℕ) (i : ℕ) : Type 0 where
@@ -28,15 +28,15 @@ module _ (f : ℕ → ℕ) (w k : ℕ) (s : List ℕ) where
   read i x r h e p = ap f (get_or-numbers w k s i h ∙ sym e) ∙ sym p
 
   -- x is the i-th number, and r what refuses it
-  pub scan-more : (i x r : ℕ) → Scanned f w k s i → i < k → x ≡ number w (drop (w * i) s) → r ≡ f x → r ≡ 0 → Scanned f w k s (i + 1)
-  scan-more i x r p h e q z = record { within = omega arith; passed = passed-more f (numbers w k s) 0 i p.passed (below i h) (read i x r h e q ∙ z) }
+  pub scan_more : (i x r : ℕ) → Scanned f w k s i → i < k → x ≡ number w (drop (w * i) s) → r ≡ f x → r ≡ 0 → Scanned f w k s (i + 1)
+  scan_more i x r p h e q z = record { within = omega arith; passed = passed_more f (numbers w k s) 0 i p.passed (below i h) (read i x r h e q ∙ z) }
 
-  pub scan-until : (i x r : ℕ) → Scanned f w k s i → i < k → x ≡ number w (drop (w * i) s) → r ≡ f x → (r ≡ 0 → ⊥) → r ≡ each f (numbers w k s)
-  scan-until i x r p h e q z =
-      sym (read i x r h e q) ∙ sym (passed-until f (numbers w k s) 0 i p.passed (below i h) (λ y. z (sym (read i x r h e q) ∙ y)))
+  pub scan_until : (i x r : ℕ) → Scanned f w k s i → i < k → x ≡ number w (drop (w * i) s) → r ≡ f x → (r ≡ 0 → ⊥) → r ≡ each f (numbers w k s)
+  scan_until i x r p h e q z =
+      sym (read i x r h e q) ∙ sym (passed_until f (numbers w k s) 0 i p.passed (below i h) (λ y. z (sym (read i x r h e q) ∙ y)))
 
-  pub scan-all : (i : ℕ) → Scanned f w k s i → k ≤ i → 0 ≡ each f (numbers w k s)
-  scan-all i p h = sym (passed-all f (numbers w k s) i p.passed (omega (arith, length-numbers w k s)))
+  pub scan_all : (i : ℕ) → Scanned f w k s i → k ≤ i → 0 ≡ each f (numbers w k s)
+  scan_all i p h = sym (passed_all f (numbers w k s) i p.passed (omega (arith, length-numbers w k s)))
 
 -- ---- a coordinate by its pattern
 

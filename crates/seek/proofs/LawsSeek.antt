@@ -13,7 +13,7 @@ use Rattle.binary64.specs.Constants.{plus_zero}
 use Rattle.binary64.specs.Number.{pick}
 use Rattle.binary64.specs.Root.{root}
 use Rattle.stretch.specs.Stretch.{part, splice}
-use Rattle.stretch.specs.StretchLaws.{splice-nil, splice-one}
+use Rattle.stretch.specs.StretchLaws.{splice_nil, splice-one}
 use Rattle.sparse.specs.declared.Csr.{Csr}
 use Rattle.conjugate.specs.declared.Vectors.{Vectors}
 use Rattle.conjugate.specs.Placed.{InRow, Starts, Begun, placed, start_of}
@@ -32,7 +32,7 @@ use Rattle.work.specs.Ready.{Ready, Standing, Roomy, Writable, MarkKeeping, Come
 use Rattle.work.specs.Seek.{Erasable, Again, Rewinds}
 use Rattle.work.specs.Kinds.{SetsOut}
 use Rattle.work.specs.StartedLaws.{start_floats}
-use Rattle.work.specs.SeekLaws.{from_place, from-standing}
+use Rattle.work.specs.SeekLaws.{from_place, from_standing}
 use Rattle.work.proofs.Laws.{Delivered, pick_small, came, comes_to}
 
 -- ---- from where a place is sought
@@ -51,69 +51,69 @@ solved-small norms e = go (eqb e 2)
     go false = omega arith
 
 module _ (limit : ℕ) (mark : Mark) (target : ℕ) where
-  pub mark-none : mark ≡ Mark.Nothing → Origin.Zero ≡ from_mark limit mark target
-  mark-none e = rw e
+  pub mark_none : mark ≡ Mark.Nothing → Origin.Zero ≡ from_mark limit mark target
+  mark_none e = rw e
 
-  pub mark-kept : (k : Kept) → mark ≡ Mark.At k → k.place ≤ target → k.norms ≤ limit → Origin.Kept k ≡ from_mark limit mark target
-  mark-kept k e p h = rw (e, le-leb k.place target p, le-leb k.norms limit h)
+  pub mark_kept : (k : Kept) → mark ≡ Mark.At k → k.place ≤ target → k.norms ≤ limit → Origin.Kept k ≡ from_mark limit mark target
+  mark_kept k e p h = rw (e, le-leb k.place target p, le-leb k.norms limit h)
 
-  pub mark-ended : (k : Kept) → mark ≡ Mark.At k → k.place ≤ target → limit < k.norms → Origin.Zero ≡ from_mark limit mark target
-  mark-ended k e p h = rw (e, le-leb k.place target p, lt-leb k.norms limit h)
+  pub mark_ended : (k : Kept) → mark ≡ Mark.At k → k.place ≤ target → limit < k.norms → Origin.Zero ≡ from_mark limit mark target
+  mark_ended k e p h = rw (e, le-leb k.place target p, lt-leb k.norms limit h)
 
-  pub mark-later : (k : Kept) → mark ≡ Mark.At k → target < k.place → Origin.Zero ≡ from_mark limit mark target
-  mark-later k e p = rw (e, lt-leb k.place target p)
+  pub mark_later : (k : Kept) → mark ≡ Mark.At k → target < k.place → Origin.Zero ≡ from_mark limit mark target
+  mark_later k e p = rw (e, lt-leb k.place target p)
 
   module _ (s : Stand) where
     pub origin_here : s.place ≤ target → Origin.Here ≡ origin_of limit s mark target
     unfolding origin_of
     origin_here h = rw (le-leb s.place target h)
 
-    pub origin-started : (a : ℕ) → target < s.place → (s.end ≡ 0 → ⊥) → a ≡ solved_at s.norms s.end → a < target → Origin.Started ≡ origin_of limit s mark target
+    pub origin_started : (a : ℕ) → target < s.place → (s.end ≡ 0 → ⊥) → a ≡ solved_at s.norms s.end → a < target → Origin.Started ≡ origin_of limit s mark target
     unfolding origin_of
-    origin-started a h n e k =
+    origin_started a h n e k =
         let l : solved_at s.norms s.end < target = rw e at k in
         rw (lt-leb s.place target h, ne_eqb s.end 0 n, le-leb (solved_at s.norms s.end) target (omega arith), lt-ltb (solved_at s.norms s.end) target l)
 
-    pub origin-solved : (a : ℕ) → target < s.place → (s.end ≡ 0 → ⊥) → a ≡ solved_at s.norms s.end → target ≤ a → a ≤ target → Origin.Solved ≡ origin_of limit s mark target
+    pub origin_solved : (a : ℕ) → target < s.place → (s.end ≡ 0 → ⊥) → a ≡ solved_at s.norms s.end → target ≤ a → a ≤ target → Origin.Solved ≡ origin_of limit s mark target
     unfolding origin_of
-    origin-solved a h n e b k =
+    origin_solved a h n e b k =
         let l : solved_at s.norms s.end ≤ target = rw e at k in
         let m : target ≤ solved_at s.norms s.end = rw e at b in
         rw (lt-leb s.place target h, ne_eqb s.end 0 n, le-leb (solved_at s.norms s.end) target l, le-ltb (solved_at s.norms s.end) target m)
 
-    pub origin-before : (a : ℕ) (o : Origin) → target < s.place → (s.end ≡ 0 → ⊥) → a ≡ solved_at s.norms s.end → target < a → o ≡ from_mark limit mark target → o ≡ origin_of limit s mark target
+    pub origin_before : (a : ℕ) (o : Origin) → target < s.place → (s.end ≡ 0 → ⊥) → a ≡ solved_at s.norms s.end → target < a → o ≡ from_mark limit mark target → o ≡ origin_of limit s mark target
     unfolding origin_of
-    origin-before a o h n e k m = let l : target < solved_at s.norms s.end = rw e at k in rw (lt-leb s.place target h, ne_eqb s.end 0 n, lt-leb (solved_at s.norms s.end) target l) m
+    origin_before a o h n e k m = let l : target < solved_at s.norms s.end = rw e at k in rw (lt-leb s.place target h, ne_eqb s.end 0 n, lt-leb (solved_at s.norms s.end) target l) m
 
-    pub origin-unsolved : (o : Origin) → target < s.place → s.end ≡ 0 → o ≡ from_mark limit mark target → o ≡ origin_of limit s mark target
+    pub origin_unsolved : (o : Origin) → target < s.place → s.end ≡ 0 → o ≡ from_mark limit mark target → o ≡ origin_of limit s mark target
     unfolding origin_of
-    origin-unsolved o h z m = rw (lt-leb s.place target h, eq-eqb s.end 0 z) m
+    origin_unsolved o h z m = rw (lt-leb s.place target h, eq-eqb s.end 0 z) m
 
 -- ---- what is erased
 
 module _ (plan : Plan) (m m' : List Float) where
-  pub gradients-erased : (k : ℕ) → k ≡ at_gradients plan.n plan.t → m' ≡ splice m k (replicate (2 * plan.t) plus_zero) → m' ≡ gradients_erased plan m
-  gradients-erased k e h = h ∙ ap (λ (a : ℕ). splice m a (replicate (2 * plan.t) plus_zero)) e
+  pub gradients_erased_lem : (k : ℕ) → k ≡ at_gradients plan.n plan.t → m' ≡ splice m k (replicate (2 * plan.t) plus_zero) → m' ≡ gradients_erased plan m
+  gradients_erased_lem k e h = h ∙ ap (λ (a : ℕ). splice m a (replicate (2 * plan.t) plus_zero)) e
 
-  pub norms-erased : (s : Stand) (k a : ℕ) → a ≡ at_norms plan.n plan.t → m' ≡ splice m (a + k) (replicate (s.norms - k) plus_zero) → m' ≡ norms_erased plan s k m
-  norms-erased s k a e h = h ∙ ap (λ (b : ℕ). splice m (b + k) (replicate (s.norms - k) plus_zero)) e
+  pub norms_erased_lem : (s : Stand) (k a : ℕ) → a ≡ at_norms plan.n plan.t → m' ≡ splice m (a + k) (replicate (s.norms - k) plus_zero) → m' ≡ norms_erased plan s k m
+  norms_erased_lem s k a e h = h ∙ ap (λ (b : ℕ). splice m (b + k) (replicate (s.norms - k) plus_zero)) e
 
 pub no_norms_erased : (plan : Plan) (s : Stand) (k : ℕ) (m : List Float) → s.norms ≤ k → m ≡ norms_erased plan s k m
-no_norms_erased plan s k m h = let z : s.norms - k ≡ 0 = omega arith in rw z (sym (splice-nil m _))
+no_norms_erased plan s k m h = let z : s.norms - k ≡ 0 = omega arith in rw z (sym (splice_nil m _))
 
 -- ---- where the way starts
 
 module _ (plan : Plan) (s : Stand) (m p : List Float) where
-  pub solved-comes : (place : ℕ) (r : Stand) (m' p' : List Float) → m' ≡ gradients_erased plan m → p' ≡ path_erased s p → place ≡ solved_at s.norms s.end
+  pub solved_comes : (place : ℕ) (r : Stand) (m' p' : List Float) → m' ≡ gradients_erased plan m → p' ≡ path_erased s p → place ≡ solved_at s.norms s.end
       → r ≡ pathless place s.rs s.norms s.end → Comes (to_solved plan (work m p s)) r m' p'
   unfolding to_solved
-  solved-comes place r m' p' e h k q = record { stand = q ∙ ap (λ (a : ℕ). pathless a s.rs s.norms s.end) k; floats = e; path = h }
+  solved_comes place r m' p' e h k q = record { stand = q ∙ ap (λ (a : ℕ). pathless a s.rs s.norms s.end) k; floats = e; path = h }
 
-  pub started-comes : (words : List ℕ) (k place : ℕ) (r : Stand) (d : Step) (p₁ m' p' : List Float) → k ≡ at_norms plan.n plan.t → place ≡ solved_at s.norms s.end
+  pub started_comes : (words : List ℕ) (k place : ℕ) (r : Stand) (d : Step) (p₁ m' p' : List Float) → k ≡ at_norms plan.n plan.t → place ≡ solved_at s.norms s.end
       → r ≡ pathless place s.rs s.norms s.end → p₁ ≡ path_erased s p → SetsOut (start_by plan words (take k m) r plan.start) d → Delivered plan r d.gives m p₁ m' p'
       → Comes (to_started plan words (work m p s)) d.stand m' p'
   unfolding to_started
-  started-comes words k place r d p₁ m' p' ek ea er ep o dl =
+  started_comes words k place r d p₁ m' p' ek ea er ep o dl =
       let from : r ≡ pathless (solved_at s.norms s.end) s.rs s.norms s.end = er ∙ ap (λ (a : ℕ). pathless a s.rs s.norms s.end) ea in
       let f = take (at_norms plan.n plan.t) m in
       let b = pathless (solved_at s.norms s.end) s.rs s.norms s.end in
@@ -125,11 +125,11 @@ module _ (plan : Plan) (s : Stand) (m p : List Float) where
         path = dl'.1 ∙ ap (path_given plan b d.gives) ep ∙ ap (λ (g : Gives). path_given plan b g (path_erased s p)) o'.gives;
       }
 
-  pub kept-comes : (k : Kept) (src at : ℕ) (m₁ m₂ m₃ : List Float) (r : Stand) (p' : List Float) → src ≡ at_kept plan.n plan.t plan.limit → at ≡ at_x plan.n plan.t
+  pub kept_comes : (k : Kept) (src at : ℕ) (m₁ m₂ m₃ : List Float) (r : Stand) (p' : List Float) → src ≡ at_kept plan.n plan.t plan.limit → at ≡ at_x plan.n plan.t
       → m₁ ≡ splice m at (part m src (3 * plan.n)) → m₂ ≡ gradients_erased plan m₁ → m₃ ≡ norms_erased plan s k.norms m₂ → p' ≡ path_erased s p
       → r ≡ pathless k.place k.rs k.norms 0 → Comes (to_kept plan k (work m p s)) r m₃ p'
   unfolding to_kept
-  kept-comes k src at m₁ m₂ m₃ r p' es ea e₁ e₂ e₃ h q = record {
+  kept_comes k src at m₁ m₂ m₃ r p' es ea e₁ e₂ e₃ h q = record {
     stand = q;
     floats = e₃ ∙ ap (norms_erased plan s k.norms) (e₂ ∙ ap (gradients_erased plan) (e₁ ∙ rw (es, ea)));
     path = h;
@@ -146,12 +146,12 @@ pub again_starts : (plan : Plan) (words : List ℕ) (l b : ℕ) (m : Csr) (v : V
     → v ≡ vectors_at plan.n plan.t → Starts words l m v b
 again_starts plan words l b m v r h eb em ev =
     rw (em, ev, eb) (record {
-      laid = record { sound = r.sound; in_row = row; values-fit = omega arith; values-outside = inl (omega arith) };
-      reads = record { in_row = row; right-fits = omega arith; right-outside = inl (omega arith) };
+      laid = record { sound = r.sound; in_row = row; values_fit = omega arith; values_outside = inl (omega arith) };
+      reads = record { in_row = row; right_fits = omega arith; right_outside = inl (omega arith) };
     })
   where
     row : InRow l (vectors_at plan.n plan.t) plan.n
-    row = record { r-after = omega arith; p-after = omega arith; product-after = omega arith; ends = omega arith }
+    row = record { r_after = omega arith; p_after = omega arith; product_after = omega arith; ends = omega arith }
 
 pub again_put : (plan : Plan) (words : List ℕ) (f f' : List Float) (b : ℕ) (m : Csr) (v : Vectors) (r : Float) → b ≡ 2 * plan.n → m ≡ matrix_at plan.n plan.t → v ≡ vectors_at plan.n plan.t
     → Begun f f' m.rows v (start_of words f m b) r → Again plan words f r f'
@@ -171,10 +171,10 @@ module _ (plan : Plan) (words : List ℕ) (s : Stand) (m : List Float) where
         ∙ ap (λ (l : List Float). splice l (at_norms plan.n plan.t) (root (begun_again plan words m).rs ∷ [])) (e₃ ∙ ap (norms_erased plan s 0) (e₂ ∙ ap (gradients_erased plan) a.floats)));
   }
 
-  pub zero-comes : (rs : Float) (m' p p' : List Float) (e : ℕ) (r : Stand) → Rewinds plan words s m rs m' → p' ≡ path_erased s p → e ≡ first_end plan.limit → r ≡ pathless 0 rs 1 e
+  pub zero_comes : (rs : Float) (m' p p' : List Float) (e : ℕ) (r : Stand) → Rewinds plan words s m rs m' → p' ≡ path_erased s p → e ≡ first_end plan.limit → r ≡ pathless 0 rs 1 e
       → Comes (to_zero plan words (work m p s)) r m' p'
   unfolding to_zero
-  zero-comes rs m' p p' e r w h ee q = record {
+  zero_comes rs m' p p' e r w h ee q = record {
     stand = q ∙ ap (λ (a : ℕ). pathless 0 rs 1 a) ee ∙ ap (λ (x : Float). pathless 0 x 1 (first_end plan.limit)) w.sum;
     floats = w.floats;
     path = h;
@@ -184,13 +184,13 @@ module _ (plan : Plan) (words : List ℕ) (s : Stand) (m : List Float) where
 
 pub erasable : {plan : Plan} {words : List ℕ} {s : Stand} {m p : List Float} → Ready plan words → Standing plan s → Roomy plan m p → Erasable plan s m p
 erasable {plan} {words} {s} r st ro = record {
-  n-most = r.n-most;
-  t-most = r.t-most;
+  n_most = r.n_most;
+  t_most = r.t_most;
   limit-most = r.limit-most;
   room_most = r.room_most;
-  norms-least = st.norms-least;
+  norms_least = st.norms_least;
   norms_most = omega (arith, st.norms_most, pick_small (eqb s.end 0));
-  points-most = st.points-most;
+  points_most = st.points_most;
   roomy = ro;
 }
 
@@ -206,43 +206,43 @@ pub started_writable : (plan : Plan) (words : List ℕ) (s : Stand) (m p : List 
     → r ≡ pathless place s.rs s.norms s.end → l ≡ length m → k ≡ length p → Writable plan r l k
 started_writable plan words s m p place r l k ready h er el ek =
     rw er (record {
-      n-most = h.n-most;
-      t-most = h.t-most;
-      norms-fit = omega (arith, h.norms_most, h.roomy.floats-fit);
-      points-most = omega arith;
-      room-least = ready.room-least;
+      n_most = h.n_most;
+      t_most = h.t_most;
+      norms_fit = omega (arith, h.norms_most, h.roomy.floats_fit);
+      points_most = omega arith;
+      room_least = ready.room_least;
       room_most = h.room_most;
-      path-fit = omega (arith, h.roomy.path-fit);
+      path_fit = omega (arith, h.roomy.path_fit);
     })
 
 module _ (plan : Plan) (words : List ℕ) (o : Origin) (w : Work) (s : Stand) (m p : List Float) where
-  pub from-here : o ≡ Origin.Here → s ≡ w.stand → m ≡ w.floats → p ≡ w.path → Comes (from_origin plan words o w) s m p
-  from-here e es em ep = rw e (record { stand = es; floats = em; path = ep })
+  pub from_here : o ≡ Origin.Here → s ≡ w.stand → m ≡ w.floats → p ≡ w.path → Comes (from_origin plan words o w) s m p
+  from_here e es em ep = rw e (record { stand = es; floats = em; path = ep })
 
-  pub from-started : o ≡ Origin.Started → Comes (to_started plan words w) s m p → Comes (from_origin plan words o w) s m p
-  from-started e c = rw e c
+  pub from_started : o ≡ Origin.Started → Comes (to_started plan words w) s m p → Comes (from_origin plan words o w) s m p
+  from_started e c = rw e c
 
   pub from-solved : o ≡ Origin.Solved → Comes (to_solved plan w) s m p → Comes (from_origin plan words o w) s m p
   from-solved e c = rw e c
 
-  pub from-kept : (k : Kept) → o ≡ Origin.Kept k → Comes (to_kept plan k w) s m p → Comes (from_origin plan words o w) s m p
-  from-kept k e c = rw e c
+  pub from_kept : (k : Kept) → o ≡ Origin.Kept k → Comes (to_kept plan k w) s m p → Comes (from_origin plan words o w) s m p
+  from_kept k e c = rw e c
 
   pub from_zero : o ≡ Origin.Zero → Comes (to_zero plan words w) s m p → Comes (from_origin plan words o w) s m p
   from_zero e c = rw e c
 
 module _ (plan : Plan) (words : List ℕ) (mark : Mark) (target : ℕ) (w : Work) (o : Origin) (s : Stand) (m p : List Float) where
-  origin-comes : o ≡ origin_of plan.limit w.stand mark target → Comes (from_origin plan words o w) s m p
+  origin_comes : o ≡ origin_of plan.limit w.stand mark target → Comes (from_origin plan words o w) s m p
       → Comes (from_origin plan words (origin_of plan.limit w.stand mark target) w) s m p
-  origin-comes e c = comes_to (ap (λ (x : Origin). from_origin plan words x w) e) c
+  origin_comes e c = comes_to (ap (λ (x : Origin). from_origin plan words x w) e) c
 
-  pub sought-place : o ≡ origin_of plan.limit w.stand mark target → Comes (from_origin plan words o w) s m p → s.place ≤ target
-  sought-place e c = omega (arith, ap (λ (v : Stand). v.place) (origin-comes e c).stand, from_place plan words mark target w)
+  pub sought_place : o ≡ origin_of plan.limit w.stand mark target → Comes (from_origin plan words o w) s m p → s.place ≤ target
+  sought_place e c = omega (arith, ap (λ (v : Stand). v.place) (origin_comes e c).stand, from_place plan words mark target w)
 
-  pub sought-standing : o ≡ origin_of plan.limit w.stand mark target → Comes (from_origin plan words o w) s m p → Ready plan words → Standing plan w.stand → MarkKeeping plan mark → Standing plan s
-  sought-standing e c r st k = subst (Standing plan) (sym (origin-comes e c).stand) (from-standing plan words mark target w r st k)
+  pub sought_standing : o ≡ origin_of plan.limit w.stand mark target → Comes (from_origin plan words o w) s m p → Ready plan words → Standing plan w.stand → MarkKeeping plan mark → Standing plan s
+  sought_standing e c r st k = subst (Standing plan) (sym (origin_comes e c).stand) (from_standing plan words mark target w r st k)
 
-  pub seek-comes : (r : Stand) (m' p' : List Float) → o ≡ origin_of plan.limit w.stand mark target → Comes (from_origin plan words o w) s m p
+  pub seek_comes : (r : Stand) (m' p' : List Float) → o ≡ origin_of plan.limit w.stand mark target → Comes (from_origin plan words o w) s m p
       → Comes (goes plan words (target - s.place) (work m p s)) r m' p' → Comes (seek plan words mark target w) r m' p'
   unfolding seek
-  seek-comes r m' p' e c d = comes_to (ap (λ (v : Work). goes plan words (target - v.stand.place) v) (came (origin-comes e c))) d
+  seek_comes r m' p' e c d = comes_to (ap (λ (v : Work). goes plan words (target - v.stand.place) v) (came (origin_comes e c))) d

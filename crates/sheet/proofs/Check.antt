@@ -28,9 +28,9 @@ module _ (n t : ℕ) (st : Settings) (s : List ℕ) (m : ℕ) (e : m ≡ count s
   some_left : 4 + 9 * count s ≤ length s → (length s ≡ 4 + 9 * m → ⊥) → pick {A = ℕ} (eqb (length (behind 9 s)) 0) 0 1 ≡ 1
   some_left l h = pick_false 0 1 (ne_eqb (length (behind 9 s)) 0 (λ z. h (omega (arith, length-behind 9 s))))
 
-  pub finish-left : 4 + 9 * count s ≤ length s → (length s ≡ 4 + 9 * m → ⊥) → Checked.Refused 1 ≡ finished n t st s
+  pub finish_left : 4 + 9 * count s ≤ length s → (length s ≡ 4 + 9 * m → ⊥) → Checked.Refused 1 ≡ finished n t st s
   unfolding finished
-  finish-left l h =
+  finish_left l h =
       sym (ap (λ (k : ℕ). checked_by (k then missing st) (header_by n t st)) (some_left l h))
 
   none_left : length s ≡ 4 + 9 * m → pick {A = ℕ} (eqb (length (behind 9 s)) 0) 0 1 ≡ 0
@@ -38,13 +38,13 @@ module _ (n t : ℕ) (st : Settings) (s : List ℕ) (m : ℕ) (e : m ≡ count s
       let f : length (behind 9 s) ≡ 0 = omega (arith, length-behind 9 s) in
       pick_true 0 1 (eq-eqb _ _ f)
 
-  pub finish-missing : (k : ℕ) → length s ≡ 4 + 9 * m → k ≡ missing st → (k ≡ 0 → ⊥) → Checked.Refused k ≡ finished n t st s
+  pub finish_missing : (k : ℕ) → length s ≡ 4 + 9 * m → k ≡ missing st → (k ≡ 0 → ⊥) → Checked.Refused k ≡ finished n t st s
   unfolding finished
-  finish-missing k h p z = answers.refused k (header_by n t st) (p ∙ sym (then_second (missing st) (none_left h))) z
+  finish_missing k h p z = answers.refused k (header_by n t st) (p ∙ sym (then_second (missing st) (none_left h))) z
 
-  pub finish-whole : (k : ℕ) (r : Header) → length s ≡ 4 + 9 * m → k ≡ missing st → k ≡ 0 → r ≡ header_by n t st → Checked.Accepted r ≡ finished n t st s
+  pub finish_whole : (k : ℕ) (r : Header) → length s ≡ 4 + 9 * m → k ≡ missing st → k ≡ 0 → r ≡ header_by n t st → Checked.Accepted r ≡ finished n t st s
   unfolding finished
-  finish-whole k r h p z q = sym (ap₂ checked_by (then_second (missing st) (none_left h) ∙ sym p ∙ z) (sym q))
+  finish_whole k r h p z q = sym (ap₂ checked_by (then_second (missing st) (none_left h) ∙ sym p ∙ z) (sym q))
 
 -- ---- sections 1 to 4
 

@@ -111,14 +111,14 @@ holds b f =
     }
 
 module _ (b : List ℕ) (c : Content) (e : parse b ≡ accepted c) where
-  accepted-faultless : Faultless b
-  accepted-faultless = faultless b (reads b c e).clean
+  accepted_faultless : Faultless b
+  accepted_faultless = faultless b (reads b c e).clean
 
-  pub header-within : Within b (header_of c)
-  header-within = subst (λ (d : Content). Within b (header_of d)) (reads b c e).content (within b accepted-faultless)
+  pub header_within : Within b (header_of c)
+  header_within = subst (λ (d : Content). Within b (header_of d)) (reads b c e).content (within b accepted_faultless)
 
-  pub content-holds : Holds b c
-  content-holds = subst (λ (d : Content). Holds b d) (reads b c e).content (holds b accepted-faultless)
+  pub content_holds : Holds b c
+  content_holds = subst (λ (d : Content). Holds b d) (reads b c e).content (holds b accepted_faultless)
 
 -- ---- one item
 
@@ -140,13 +140,13 @@ real_item part n k xs e f h =
     pick_false _ _ (nan_bits_is binary64 (number 8 (drop (8 * k) part)) ∙ ap is_nan (sym v) ∙ p.number) ∙ sym v
 
 module _ (b : List ℕ) (c : Content) (e : parse b ≡ accepted c) where
-  pub vertex-item : (i : ℕ) → i < vertex_count c → vertex_in (drop (header_of c).vertices b) i ≡ vertex_of c i
+  pub vertex_item : (i : ℕ) → i < vertex_count c → vertex_in (drop (header_of c).vertices b) i ≡ vertex_of c i
   unfolding vertex_in content_of
-  vertex-item i h =
+  vertex_item i h =
       let part = drop (header_of c).vertices b in
-      let w : 4 + 16 * vertex_count c ≤ length b = (header-within b c e).vertices in
-      let f : each coordinate_fault c.vertices ≡ 0 = subst (λ (d : Content). each coordinate_fault d.vertices ≡ 0) (reads b c e).content (accepted-faultless b c e).coordinates in
-      let v = (content-holds b c e).vertices in
+      let w : 4 + 16 * vertex_count c ≤ length b = (header_within b c e).vertices in
+      let f : each coordinate_fault c.vertices ≡ 0 = subst (λ (d : Content). each coordinate_fault d.vertices ≡ 0) (reads b c e).content (accepted_faultless b c e).coordinates in
+      let v = (content_holds b c e).vertices in
       let q : i < length part / 16 = omega (arith, length-drop 4 b) in
       let x : real_in (number 8 (drop (8 * (2 * i)) part)) ≡ get_or c.vertices (2 * i) plus_zero = real_item part (vertex_count c) (2 * i) c.vertices v f (omega arith) in
       let y : real_in (number 8 (drop (8 * (2 * i + 1)) part)) ≡ get_or c.vertices (2 * i + 1) plus_zero = real_item part (vertex_count c) (2 * i + 1) c.vertices v f (omega arith) in
@@ -155,20 +155,20 @@ module _ (b : List ℕ) (c : Content) (e : parse b ≡ accepted c) where
       pick_true _ _ (lt-ltb i (length part / 16) q)
       ∙ ap₂ point (ap (λ (k : ℕ). real_in (number 8 (drop k part))) a ∙ x) (ap (λ (k : ℕ). real_in (number 8 (drop k part))) d ∙ y)
 
-  pub corner-item : (i : ℕ) → i < 3 * triangle_count c → whole_in (drop (header_of c).triangles b) i ≡ get_or c.triangles i 0
-  corner-item i h =
-      let w : (header_of c).triangles + 12 * triangle_count c ≤ length b = (header-within b c e).triangles in
-      whole_item (drop (header_of c).triangles b) (3 * triangle_count c) i c.triangles (content-holds b c e).triangles (omega (arith, length-drop (header_of c).triangles b)) h
+  pub corner_item : (i : ℕ) → i < 3 * triangle_count c → whole_in (drop (header_of c).triangles b) i ≡ get_or c.triangles i 0
+  corner_item i h =
+      let w : (header_of c).triangles + 12 * triangle_count c ≤ length b = (header_within b c e).triangles in
+      whole_item (drop (header_of c).triangles b) (3 * triangle_count c) i c.triangles (content_holds b c e).triangles (omega (arith, length-drop (header_of c).triangles b)) h
 
-  pub neighbour-item : (i : ℕ) → i < 3 * triangle_count c → whole_in (drop (header_of c).neighbours b) i ≡ get_or c.neighbours i 0
-  neighbour-item i h =
-      let w : (header_of c).neighbours + 12 * triangle_count c ≤ length b = (header-within b c e).neighbours in
-      whole_item (drop (header_of c).neighbours b) (3 * triangle_count c) i c.neighbours (content-holds b c e).neighbours (omega (arith, length-drop (header_of c).neighbours b)) h
+  pub neighbour_item : (i : ℕ) → i < 3 * triangle_count c → whole_in (drop (header_of c).neighbours b) i ≡ get_or c.neighbours i 0
+  neighbour_item i h =
+      let w : (header_of c).neighbours + 12 * triangle_count c ≤ length b = (header_within b c e).neighbours in
+      whole_item (drop (header_of c).neighbours b) (3 * triangle_count c) i c.neighbours (content_holds b c e).neighbours (omega (arith, length-drop (header_of c).neighbours b)) h
 
-  pub tag-item : (i : ℕ) → i < vertex_count c → get_or (drop (header_of c).tags b) i 0 ≡ tag_of c i
+  pub tag_item : (i : ℕ) → i < vertex_count c → get_or (drop (header_of c).tags b) i 0 ≡ tag_of c i
   unfolding number
-  tag-item i h =
+  tag_item i h =
       let part = drop (header_of c).tags b in
       let o : 1 * i ≡ i = omega arith in
       let z : get_or part i 0 + 256 * 0 ≡ get_or part i 0 = omega arith in
-      sym (ap (λ (l : List ℕ). get_or l i 0) (content-holds b c e).tags ∙ get_or-numbers 1 (vertex_count c) part i h ∙ ap (λ (k : ℕ). number 1 (drop k part)) o ∙ number-drop 0 i part ∙ z)
+      sym (ap (λ (l : List ℕ). get_or l i 0) (content_holds b c e).tags ∙ get_or-numbers 1 (vertex_count c) part i h ∙ ap (λ (k : ℕ). number 1 (drop k part)) o ∙ number-drop 0 i part ∙ z)

@@ -12,7 +12,7 @@ use lib.Ieee.{Float, nan}
 use Rattle.binary64.specs.Arith.{◌⊕◌, ◌⊗◌}
 use Rattle.binary64.specs.Constants.{plus_zero}
 use Rattle.stretch.specs.Stretch.{part, splice}
-use Rattle.stretch.specs.StretchLaws.{length_part, part-suc, part-part, get_d_part, splice-nil, splice-snoc, part-splice-before, part-splice-after}
+use Rattle.stretch.specs.StretchLaws.{length_part, part_suc, part_part, get_d_part, splice_nil, splice_snoc, part_splice-before, part_splice-after}
 use Rattle.stretch.specs.Vec.{dot, dot_from}
 use Rattle.stretch.specs.VecLaws.{dot_snoc}
 use Rattle.sparse.specs.declared.Csr.{Csr}
@@ -57,7 +57,7 @@ row_step cols vals x from e sum h hc hv s =
     let ic : from + j < length cols = omega arith in
     let iv : from + j < length vals = omega arith in
     let k : length (part cols from j) ≡ length (part vals from j) = length_part cols from j (omega arith) ∙ sym (length_part vals from j (omega arith)) in
-    rw (s, more, part-suc cols from j 0 ic, part-suc vals from j nan iv, entries_snoc _ _ _ _ k, row_from_snoc, at)
+    rw (s, more, part_suc cols from j 0 ic, part_suc vals from j nan iv, entries_snoc _ _ _ _ k, row_from_snoc, at)
 
 -- ---- the partial sums of a row
 
@@ -94,34 +94,34 @@ unfolding part
 lent_at l a e i k d h is = get_d_part l a (e - a) i d (omega arith) ∙ ap (λ (j : ℕ). get_or l j d) (sym is)
 
 -- with a vector x, wherever it stands
-module _ (words : List ℕ) (floats : List Float) (m : Csr) (from to : ℕ) (x : List Float) (rise : from ≤ to) (ends : to ≤ m.count) (columns-fit : m.cols + m.count ≤ length words)
-    (values-fit : m.vals + m.count ≤ length floats) (below : Below words m.cols m.rows m.count) (long : length x ≡ m.rows) where
-  row-of-parts : Row (lent words m.cols m.count) (length (lent floats m.vals m.count)) (length x) from to
-  row-of-parts =
-      let c : length (part words m.cols m.count) ≡ m.count = length_part words m.cols m.count columns-fit in
-      let v : length (part floats m.vals m.count) ≡ m.count = length_part floats m.vals m.count values-fit in
+module _ (words : List ℕ) (floats : List Float) (m : Csr) (from to : ℕ) (x : List Float) (rise : from ≤ to) (ends : to ≤ m.count) (columns_fit : m.cols + m.count ≤ length words)
+    (values_fit : m.vals + m.count ≤ length floats) (below : Below words m.cols m.rows m.count) (long : length x ≡ m.rows) where
+  row_of_parts : Row (lent words m.cols m.count) (length (lent floats m.vals m.count)) (length x) from to
+  row_of_parts =
+      let c : length (part words m.cols m.count) ≡ m.count = length_part words m.cols m.count columns_fit in
+      let v : length (part floats m.vals m.count) ≡ m.count = length_part floats m.vals m.count values_fit in
       let b : Below (part words m.cols m.count) from m.rows (to - from) =
       record { at = λ j h. rw (get_d_part words m.cols m.count (from + j) 0 (omega arith)) (below.at (from + j) (omega arith)) } in
-      rw (lent_part words m.cols m.count, lent_part floats m.vals m.count) (record { rise = rise; columns-fit = omega arith; values-fit = omega arith; below = rw long b })
+      rw (lent_part words m.cols m.count, lent_part floats m.vals m.count) (record { rise = rise; columns_fit = omega arith; values_fit = omega arith; below = rw long b })
 
-  row-of-parts-is : (y : Float) → y ≡ row_product (entries (part (lent words m.cols m.count) from (to - from)) (part (lent floats m.vals m.count) from (to - from))) x
+  row_of_parts_is : (y : Float) → y ≡ row_product (entries (part (lent words m.cols m.count) from (to - from)) (part (lent floats m.vals m.count) from (to - from))) x
       → y ≡ row_product (row_from_to words floats m from to) x
-  row-of-parts-is y e =
+  row_of_parts_is y e =
       e
-      ∙ rw (lent_part words m.cols m.count, lent_part floats m.vals m.count, part-part words m.cols m.count from (to - from) (omega arith), part-part floats m.vals m.count from (to - from) (omega arith))
+      ∙ rw (lent_part words m.cols m.count, lent_part floats m.vals m.count, part_part words m.cols m.count from (to - from) (omega arith), part_part floats m.vals m.count from (to - from) (omega arith))
 
 module _ (words : List ℕ) (floats : List Float) (m : Csr) (p from to : ℕ) (r : RowAt words (length floats) m p from to) where
-  lent-long : length (lent floats p m.rows) ≡ m.rows
-  lent-long = ap length (lent_part floats p m.rows) ∙ length_part floats p m.rows r.vector-fits
+  lent_long : length (lent floats p m.rows) ≡ m.rows
+  lent_long = ap length (lent_part floats p m.rows) ∙ length_part floats p m.rows r.vector_fits
 
   pub row-lent : Row (lent words m.cols m.count) (length (lent floats m.vals m.count)) (length (lent floats p m.rows)) from to
-  row-lent = row-of-parts words floats m from to (lent floats p m.rows) r.rise r.end_fits r.columns-fit r.values-fit r.below lent-long
+  row-lent = row_of_parts words floats m from to (lent floats p m.rows) r.rise r.end_fits r.columns_fit r.values_fit r.below lent_long
 
-  pub row-lent-is : (y : Float)
+  pub row-lent_is : (y : Float)
       → y ≡ row_product (entries (part (lent words m.cols m.count) from (to - from)) (part (lent floats m.vals m.count) from (to - from))) (lent floats p m.rows)
       → y ≡ row_product (row_from_to words floats m from to) (part floats p m.rows)
-  row-lent-is y e =
-      row-of-parts-is words floats m from to (lent floats p m.rows) r.rise r.end_fits r.columns-fit r.values-fit r.below lent-long y e
+  row-lent_is y e =
+      row_of_parts_is words floats m from to (lent floats p m.rows) r.rise r.end_fits r.columns_fit r.values_fit r.below lent_long y e
       ∙ ap (row_product (row_from_to words floats m from to)) (lent_part floats p m.rows)
 
 mat_vec_snoc : (rs : List (List Entry)) (r : List Entry) (x : List Float) → mat_vec (rs ++ (r ∷ [])) x ≡ mat_vec rs x ++ (row_product r x ∷ [])
@@ -162,14 +162,14 @@ module _ (words : List ℕ) (floats : List Float) (m : Csr) (x : List Float) (i 
   pub with_none : PartialSum (lent words m.cols m.count) (lent floats m.vals m.count) x from to from plus_zero
   with_none =
       let r = b.sound.rising.at i h in
-      sum_none _ x (row-of-parts words floats m from to x (omega arith) (omega arith) b.sound.columns-fit b.values-fit b.sound.below b.vector-long)
+      sum_none _ x (row_of_parts words floats m from to x (omega arith) (omega arith) b.sound.columns_fit b.values_fit b.sound.below b.vector_long)
 
-  pub with-is : (y : Float) → y ≡ row_product (entries (part (lent words m.cols m.count) from (to - from)) (part (lent floats m.vals m.count) from (to - from))) x
+  pub with_is : (y : Float) → y ≡ row_product (entries (part (lent words m.cols m.count) from (to - from)) (part (lent floats m.vals m.count) from (to - from))) x
       → y ≡ get_or (mat_vec (matrix words floats m) x) i nan
   unfolding row_at
-  with-is y e =
+  with_is y e =
       let r = b.sound.rising.at i h in
-      row-of-parts-is words floats m from to x (omega arith) (omega arith) b.sound.columns-fit b.values-fit b.sound.below b.vector-long y e
+      row_of_parts_is words floats m from to x (omega arith) (omega arith) b.sound.columns_fit b.values_fit b.sound.below b.vector_long y e
       ∙ rw (from_is, to_is) (sym (mat_vec-at words floats m x m.rows i h))
 
 -- ---- the loop over the rows: s is the buffer at entry, l after i rows
@@ -182,41 +182,41 @@ pub record Rows (w : List ℕ) (s l : List Float) (m : Csr) (at p i : ℕ) (sum 
 
 pub rows_none : (w : List ℕ) (s : List Float) (m : Csr) (at p from : ℕ) → from ≡ get_or w m.starts 0 → Rows w s s m at p 0 plus_zero from
 unfolding dot dot_from part
-rows_none w s m at p from e = record { is = rw (mat_vec_none, splice-nil); sum_is = refl; from_is = rw add-zero e }
+rows_none w s m at p from e = record { is = rw (mat_vec_none, splice_nil); sum_is = refl; from_is = rw add-zero e }
 
 -- what the row asks
 pub for_row : (w : List ℕ) (l k : ℕ) (m : Csr) (at p i from to : ℕ) → Multiplies w l m at p → k ≡ l → i < m.rows → from ≡ start w m i → to ≡ end w m i → RowAt w k m p from to
 for_row w l k m at p i from to z e h f t =
     let r = z.sound.rising.at i h in
-    record { rise = omega arith; end_fits = omega arith; columns-fit = omega arith; values-fit = omega arith; vector-fits = omega arith; below = z.sound.below }
+    record { rise = omega arith; end_fits = omega arith; columns_fit = omega arith; values_fit = omega arith; vector_fits = omega arith; below = z.sound.below }
 
 part_splice_apart : (s new : List Float) (at n b k c j : ℕ) → length new ≤ n → Apart at n b k → b ≤ c → c + j ≤ b + k → part (splice s at new) c j ≡ part s c j
 part_splice_apart s new at n b k c j e a h f =
-    ⊎_elim (λ (q : at + n ≤ b). part-splice-after s at new c j (omega arith)) (λ (q : b + k ≤ at). part-splice-before s at new c j (omega arith)) a
+    ⊎_elim (λ (q : at + n ≤ b). part_splice-after s at new c j (omega arith)) (λ (q : b + k ≤ at). part_splice-before s at new c j (omega arith)) a
 
 module _ (w : List ℕ) (s l : List Float) (m : Csr) (at p i : ℕ) (sum : Float) (from to : ℕ) (y : Float)
     (z : Multiplies w (length s) m at p) (h : i < m.rows) (so_far : Rows w s l m at p i sum from) (to_is : to ≡ end w m i)
     (ey : y ≡ row_product (row_from_to w l m from to) (part l p m.rows)) where
-  done-long : length (mat_vec (rows_of w s m i) (part s p m.rows)) ≡ i
-  done-long = length-rows w s m i (part s p m.rows)
+  done_long : length (mat_vec (rows_of w s m i) (part s p m.rows)) ≡ i
+  done_long = length-rows w s m i (part s p m.rows)
 
   kept : (b k c j : ℕ) → Apart at m.rows b k → b ≤ c → c + j ≤ b + k → part l c j ≡ part s c j
   kept b k c j a f g =
-      let d = done-long in
+      let d = done_long in
       ap (λ (q : List Float). part q c j) so_far.is
       ∙ part_splice_apart s (mat_vec (rows_of w s m i) (part s p m.rows)) at m.rows b k c j (omega arith) a f g
 
-  vector-kept : part l p m.rows ≡ part s p m.rows
-  vector-kept = kept p m.rows p m.rows z.vector-apart (omega arith) (omega arith)
+  vector_kept : part l p m.rows ≡ part s p m.rows
+  vector_kept = kept p m.rows p m.rows z.vector_apart (omega arith) (omega arith)
 
-  values-kept : part l (m.vals + start w m i) (end w m i - start w m i) ≡ part s (m.vals + start w m i) (end w m i - start w m i)
-  values-kept =
+  values_kept : part l (m.vals + start w m i) (end w m i - start w m i) ≡ part s (m.vals + start w m i) (end w m i - start w m i)
+  values_kept =
       let r = z.sound.rising.at i h in
-      kept m.vals m.count (m.vals + start w m i) (end w m i - start w m i) z.values-apart (omega arith) (omega arith)
+      kept m.vals m.count (m.vals + start w m i) (end w m i - start w m i) z.values_apart (omega arith) (omega arith)
 
   row_is : y ≡ row_product (row_at w s m i) (part s p m.rows)
   unfolding row_at
-  row_is = ey ∙ rw (so_far.from_is, to_is, vector-kept, values-kept)
+  row_is = ey ∙ rw (so_far.from_is, to_is, vector_kept, values_kept)
 
   pub rows_step : Rows w s (set l (at + i) y) m at p (i + 1) (sum ⊕ get_or l (p + i) nan ⊗ y) to
   rows_step =
@@ -224,16 +224,16 @@ module _ (w : List ℕ) (s l : List Float) (m : Csr) (at p i : ℕ) (sum : Float
       let done : List Float = mat_vec (rows_of w s m i) x in
       let v : Float = row_product (row_at w s m i) x in
       let f : p + i < length s = omega arith in
-      let k : length (part s p i) ≡ length done = length_part s p i (omega arith) ∙ sym done-long in
+      let k : length (part s p i) ≡ length done = length_part s p i (omega arith) ∙ sym done_long in
       let g : get_or l (p + i) nan ≡ get_or s (p + i) nan =
-      sym (get_d_part l p m.rows i nan h) ∙ ap (λ (q : List Float). get_or q i nan) vector-kept ∙ get_d_part s p m.rows i nan h in
+      sym (get_d_part l p m.rows i nan h) ∙ ap (λ (q : List Float). get_or q i nan) vector_kept ∙ get_d_part s p m.rows i nan h in
       let stored : set l (at + i) y ≡ splice s at (done ++ (v ∷ [])) =
-      cc (so_far.is, row_is, splice-snoc s at done v, done-long) in
+      cc (so_far.is, row_is, splice_snoc s at done v, done_long) in
       let summed : sum ⊕ get_or l (p + i) nan ⊗ y ≡ dot (part s p i ++ (get_or s (p + i) nan ∷ [])) (done ++ (v ∷ [])) =
       cc (so_far.sum_is, row_is, g, dot_snoc (part s p i) done (get_or s (p + i) nan) v k) in
       record {
         is = rw (add-one i, mat_vec_suc) stored;
-        sum_is = rw (add-one i, mat_vec_suc, part-suc s p i nan f) summed;
+        sum_is = rw (add-one i, mat_vec_suc, part_suc s p i nan f) summed;
         from_is = rw (← (add_assoc m.starts i 1)) to_is;
       }
 

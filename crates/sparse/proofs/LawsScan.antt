@@ -9,7 +9,7 @@ use native.Mathlib.Omega.{arith}
 use lib.ListN.{length, get_or}
 use lib.Dec.{leb, ltb}
 use Rattle.stretch.specs.Stretch.{part}
-use Rattle.stretch.specs.StretchLaws.{part-suc, part-cons}
+use Rattle.stretch.specs.StretchLaws.{part_suc, part_cons}
 use Rattle.sparse.specs.Scan.{all_below, rises_from, rises}
 
 -- ---- columns below a bound
@@ -25,7 +25,7 @@ below_none words at n = refl
 
 pub below_step : (words : List ℕ) (at n j : ℕ) (good : Bool) → at + j < length words → good ≡ all_below n (part words at j)
     → (good && ltb (get_or words (at + j) 0) n) ≡ all_below n (part words at (j + 1))
-below_step words at n j good h e = rw (e, add-one, part-suc words at j 0 h) (sym (all_below_snoc n (part words at j) (get_or words (at + j) 0)))
+below_step words at n j good h e = rw (e, add-one, part_suc words at j 0 h) (sym (all_below_snoc n (part words at j) (get_or words (at + j) 0)))
 
 -- ---- row starts
 
@@ -37,7 +37,7 @@ pub rises_none : (words : List ℕ) (at k top : ℕ) → at < length words → r
 unfolding rises rises_on
 rises_none words at k top h =
     let d : k - 0 ≡ k = omega arith in
-    rw (add-one k, part-cons words at k 0 h, add-zero, add-one at, d)
+    rw (add-one k, part_cons words at k 0 h, add-zero, add-one at, d)
 
 pub rises_step : (words : List ℕ) (at k top j low : ℕ) (good all : Bool) → j < k → at + k < length words → all ≡ rises_on words at k top good low j
     → all ≡ rises_on words at k top (good && leb low (get_or words (at + j + 1) 0)) (get_or words (at + j + 1) 0) (j + 1)
@@ -49,7 +49,7 @@ rises_step words at k top j low good all h f e =
     let d : k - j ≡ suc left = omega arith in
     let s : at + (j + 1) + 1 ≡ suc i = omega arith in
     let b : i < length words = omega arith in
-    rw (e, d, part-cons words i left 0 b, s) (sym (and_assoc good (leb low next) (rises_from top next (part words (suc i) left))))
+    rw (e, d, part_cons words i left 0 b, s) (sym (and_assoc good (leb low next) (rises_from top next (part words (suc i) left))))
 
 pub rises_done : (words : List ℕ) (at k top j low : ℕ) (good all : Bool) → j ≡ k → all ≡ rises_on words at k top good low j → (good && leb low top) ≡ all
 unfolding rises_on rises_from part

@@ -15,31 +15,31 @@ Apart a m b n = (a + m ≤ b) ⊎ (b + n ≤ a)
 pub record Multiplies (words : List ℕ) (l : ℕ) (m : Csr) (at p : ℕ) : Type 0 where
   pub sound : Sound words m
   pub fits : at + m.rows ≤ l
-  pub vector-fits : p + m.rows ≤ l
-  pub values-fit : m.vals + m.count ≤ l
-  pub vector-apart : Apart at m.rows p m.rows
-  pub values-apart : Apart at m.rows m.vals m.count
+  pub vector_fits : p + m.rows ≤ l
+  pub values_fit : m.vals + m.count ≤ l
+  pub vector_apart : Apart at m.rows p m.rows
+  pub values_apart : Apart at m.rows m.vals m.count
 
 -- A sound matrix whose values are in a buffer of l floats, and a vector of k elsewhere.
 pub record Beside (words : List ℕ) (l : ℕ) (m : Csr) (k : ℕ) : Type 0 where
   pub sound : Sound words m
-  pub values-fit : m.vals + m.count ≤ l
-  pub vector-long : k ≡ m.rows
+  pub values_fit : m.vals + m.count ≤ l
+  pub vector_long : k ≡ m.rows
 
 -- Entries from `from` up to `to` among v columns and values, with columns below n.
 pub record Row (cols : List ℕ) (v n from to : ℕ) : Type 0 where
   pub rise : from ≤ to
-  pub columns-fit : to ≤ length cols
-  pub values-fit : to ≤ v
+  pub columns_fit : to ≤ length cols
+  pub values_fit : to ≤ v
   pub below : Below cols from n (to - from)
 
 -- the same of a sound matrix in the two buffers, with the vector from p
 pub record RowAt (words : List ℕ) (l : ℕ) (m : Csr) (p from to : ℕ) : Type 0 where
   pub rise : from ≤ to
   pub end_fits : to ≤ m.count
-  pub columns-fit : m.cols + m.count ≤ length words
-  pub values-fit : m.vals + m.count ≤ l
-  pub vector-fits : p + m.rows ≤ l
+  pub columns_fit : m.cols + m.count ≤ length words
+  pub values_fit : m.vals + m.count ≤ l
+  pub vector_fits : p + m.rows ≤ l
   pub below : Below words m.cols m.rows m.count
 
 abbrev pub row_from_to : List ℕ → List Float → Csr → ℕ → ℕ → List Entry

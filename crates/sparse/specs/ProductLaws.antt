@@ -2,7 +2,7 @@
 use Rattle.std.specs.Prelude.{◌≡◌, refl, List, [], ◌∷◌, ℕ, zero, suc, ◌+◌, ◌-◌, ◌≤◌, length, Float}
 use Rattle.std.proofs.Common.{sym, ap, ◌∙◌, add-one, arith, length-append}
 use Rattle.stretch.specs.Stretch.{part, Wrote}
-use Rattle.stretch.specs.StretchLaws.{part-part}
+use Rattle.stretch.specs.StretchLaws.{part_part}
 use Rattle.sparse.specs.declared.Csr.{Csr}
 use Rattle.sparse.specs.Sparse.{Entry, mat_vec}
 use Rattle.sparse.specs.Stored.{start, end, row_at, rows_of, matrix, Sound}
@@ -39,7 +39,7 @@ rows_kept w s l m so e (suc i) h =
     let f : ℕ = start w m i in
     let k : ℕ = end w m i - start w m i in
     let keeps : part l (m.vals + f) k ≡ part s (m.vals + f) k =
-    sym (part-part l m.vals m.count f k (omega arith)) ∙ ap (λ (q : List Float). part q f k) e ∙ part-part s m.vals m.count f k (omega arith) in
+    sym (part_part l m.vals m.count f k (omega arith)) ∙ ap (λ (q : List Float). part q f k) e ∙ part_part s m.vals m.count f k (omega arith) in
     rw (rows_kept w s l m so e i (omega arith), keeps)
 
 pub matrix_kept : (w : List ℕ) (s l : List Float) (m : Csr) → Sound w m → part l m.vals m.count ≡ part s m.vals m.count → matrix w l m ≡ matrix w s m

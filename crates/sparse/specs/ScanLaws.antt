@@ -4,7 +4,7 @@ use Rattle.std.proofs.Common.{sym, ap, ◌∙◌, add-one, ltb-true, leb-true, l
 use native.Mathlib.Omega.{arith}
 use Rattle.binary64.specs.NumberLaws.{both}
 use Rattle.stretch.specs.Stretch.{part}
-use Rattle.stretch.specs.StretchLaws.{part-cons, get_d_part, length_part}
+use Rattle.stretch.specs.StretchLaws.{part_cons, get_d_part, length_part}
 use Rattle.sparse.specs.declared.Csr.{Csr}
 use Rattle.sparse.specs.Stored.{start, end, Rising, Below, Sound}
 use Rattle.sparse.specs.Scan.{all_below, rises_from, rises}
@@ -57,36 +57,36 @@ rises_from-all top a [] f e = le-leb a top e
 rises_from-all top a (b ∷ bs) f e = rw (le-leb a b (f 0 (omega arith))) (rises_from-all top b bs (λ i h. f (suc i) (omega arith)) e)
 
 module _ (words : List ℕ) (m : Csr) (k : ℕ) (h : m.starts + k < length words) where
-  first-and-others : part words m.starts (k + 1) ≡ get_or words m.starts 0 ∷ part words (suc m.starts) k
-  first-and-others = rw add-one (part-cons words m.starts k 0 (omega arith))
+  first_and_others : part words m.starts (k + 1) ≡ get_or words m.starts 0 ∷ part words (suc m.starts) k
+  first_and_others = rw add-one (part_cons words m.starts k 0 (omega arith))
 
-  others-long : length (part words (suc m.starts) k) ≡ k
-  others-long = length_part words (suc m.starts) k (omega arith)
+  others_long : length (part words (suc m.starts) k) ≡ k
+  others_long = length_part words (suc m.starts) k (omega arith)
 
   start_is : (i : ℕ) → i ≤ k → get_or (get_or words m.starts 0 ∷ part words (suc m.starts) k) i 0 ≡ start words m i
-  start_is i t = ap (λ (ws : List ℕ). get_or ws i 0) (sym first-and-others) ∙ get_d_part words m.starts (k + 1) i 0 (omega arith)
+  start_is i t = ap (λ (ws : List ℕ). get_or ws i 0) (sym first_and_others) ∙ get_d_part words m.starts (k + 1) i 0 (omega arith)
 
   end_is : (i : ℕ) → i < k → get_or (part words (suc m.starts) k) i 0 ≡ end words m i
   end_is i t =
       let o : suc m.starts + i ≡ m.starts + i + 1 = omega arith in
       get_d_part words (suc m.starts) k i 0 t ∙ ap (λ (q : ℕ). get_or words q 0) o
 
-  rising-at : rises m.count (part words m.starts (k + 1)) ≡ true → (i : ℕ) → i < k → (start words m i ≤ end words m i) × (end words m i ≤ m.count)
+  rising_at : rises m.count (part words m.starts (k + 1)) ≡ true → (i : ℕ) → i < k → (start words m i ≤ end words m i) × (end words m i ≤ m.count)
   unfolding rises
-  rising-at e i t =
+  rising_at e i t =
       let s = start_is i (omega arith) in
       let g = end_is i t in
-      let r = rises_from-at m.count (get_or words m.starts 0) (part words (suc m.starts) k) i (rw first-and-others at e) (omega (arith, others-long)) in
+      let r = rises_from-at m.count (get_or words m.starts 0) (part words (suc m.starts) k) i (rw first_and_others at e) (omega (arith, others_long)) in
       (omega arith, omega arith)
 
-  pub rising-of : rises m.count (part words m.starts (k + 1)) ≡ true → Rising words m k
-  rising-of e = record { at = rising-at e }
+  pub rising_of : rises m.count (part words m.starts (k + 1)) ≡ true → Rising words m k
+  rising_of e = record { at = rising_at e }
 
-  pub rising-scans : Rising words m k → start words m k ≤ m.count → rises m.count (part words m.starts (k + 1)) ≡ true
+  pub rising_scans : Rising words m k → start words m k ≤ m.count → rises m.count (part words m.starts (k + 1)) ≡ true
   unfolding rises
-  rising-scans r e =
-      let l = others-long in
-      rw first-and-others
+  rising_scans r e =
+      let l = others_long in
+      rw first_and_others
       (rises_from-all m.count (get_or words m.starts 0) (part words (suc m.starts) k)
       (λ i t.
       let a = start_is i (omega arith) in
@@ -98,4 +98,4 @@ module _ (words : List ℕ) (m : Csr) (k : ℕ) (h : m.starts + k < length words
 pub sound_of : (words : List ℕ) (m : Csr) → m.starts + m.rows < length words → m.cols + m.count ≤ length words
     → rises m.count (part words m.starts (m.rows + 1)) ≡ true → all_below m.rows (part words m.cols m.count) ≡ true → Sound words m
 sound_of words m s c r b =
-    record { starts_fit = s; columns-fit = c; rising = rising-of words m m.rows s r; below = below_of words m.cols m.rows m.count c b }
+    record { starts_fit = s; columns_fit = c; rising = rising_of words m m.rows s r; below = below_of words m.cols m.rows m.count c b }

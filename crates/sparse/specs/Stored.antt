@@ -35,6 +35,6 @@ pub record Below (words : List ℕ) (c n k : ℕ) : Type 0 where
 
 pub record Sound (words : List ℕ) (m : Csr) : Type 0 where
   pub starts_fit : m.starts + m.rows < length words
-  pub columns-fit : m.cols + m.count ≤ length words
+  pub columns_fit : m.cols + m.count ≤ length words
   pub rising : Rising words m m.rows
   pub below : Below words m.cols m.rows m.count

@@ -15,7 +15,7 @@ use Rattle.plane.specs.declared.Point.{Point}
 use Rattle.stretch.specs.Stretch.{part}
 use Rattle.stretch.specs.StretchLaws.{length_part, get_d_part}
 use Rattle.pde.specs.Search.{first_of}
-use Rattle.pde.specs.SearchLaws.{left_of, left-all, left-skip, left-found, left-done}
+use Rattle.pde.specs.SearchLaws.{left_of, left-all, left_skip, left_found, left_done}
 use Rattle.pde.specs.declared.Start.{Start}
 use Rattle.pde.specs.declared.Start.TheVariants.{At, Nothing}
 use Rattle.pde.specs.Start.{no_edge, or_else, contains, contained_in, triangle_containing, is_inner, middle, inner_edge, inner_edge_of, first_inner, least_from, least_vertex, has, centroid, centroid_with, first_with}
@@ -31,17 +31,17 @@ unfolding start_left
 start-all f n = left-all or_else Nothing f n
 
 module _ {w : Start} (f : ℕ → Start) (i n : ℕ) where
-  pub start-skip : i < n → f i ≡ Nothing → w ≡ start_left f i n → w ≡ start_left f (i + 1) n
+  pub start_skip : i < n → f i ≡ Nothing → w ≡ start_left f i n → w ≡ start_left f (i + 1) n
   unfolding start_left
-  start-skip h e p = left-skip or_else Nothing f i n Nothing (λ s. refl) h e p
+  start_skip h e p = left_skip or_else Nothing f i n Nothing (λ s. refl) h e p
 
-  pub start-found : {p : Point} {t e : ℕ} → i < n → f i ≡ At p t e → w ≡ start_left f i n → At p t e ≡ w
+  pub start_found : {p : Point} {t e : ℕ} → i < n → f i ≡ At p t e → w ≡ start_left f i n → At p t e ≡ w
   unfolding start_left
-  start-found {p} {t} {e} h q a = left-found or_else Nothing f i n (At p t e) (λ s. refl) h q a
+  start_found {p} {t} {e} h q a = left_found or_else Nothing f i n (At p t e) (λ s. refl) h q a
 
-  pub start-done : n ≤ i → w ≡ start_left f i n → Nothing ≡ w
+  pub start_done : n ≤ i → w ≡ start_left f i n → Nothing ≡ w
   unfolding start_left
-  start-done h p = sym (left-done or_else Nothing f i n h p)
+  start_done h p = sym (left_done or_else Nothing f i n h p)
 
 -- ---- the whole of each
 
@@ -68,27 +68,27 @@ module _ (vs : List Float) (ts : List ℕ) (p : Point) (t : ℕ) where
   unfolding contained_in
   contained h = rw h
 
-  pub contained-not : contains vs ts p t ≡ false → contained_in vs ts p t ≡ Nothing
+  pub contained_not : contains vs ts p t ≡ false → contained_in vs ts p t ≡ Nothing
   unfolding contained_in
-  contained-not h = rw h
+  contained_not h = rw h
 
 module _ (vs : List Float) (ts ns tags : List ℕ) (t e : ℕ) where
-  pub inner-is : {p : Point} → is_inner ts ns tags t e ≡ true → p ≡ middle vs ts t e → inner_edge vs ts ns tags t e ≡ At p t e
+  pub inner_is : {p : Point} → is_inner ts ns tags t e ≡ true → p ≡ middle vs ts t e → inner_edge vs ts ns tags t e ≡ At p t e
   unfolding inner_edge
-  inner-is h q = rw (h, q)
+  inner_is h q = rw (h, q)
 
-  pub inner-not : is_inner ts ns tags t e ≡ false → inner_edge vs ts ns tags t e ≡ Nothing
+  pub inner_not : is_inner ts ns tags t e ≡ false → inner_edge vs ts ns tags t e ≡ Nothing
   unfolding inner_edge
-  inner-not h = rw h
+  inner_not h = rw h
 
 module _ (vs : List Float) (ts : List ℕ) (v t : ℕ) where
-  pub with-is : {p : Point} → has ts v t ≡ true → p ≡ centroid vs ts t → centroid_with vs ts v t ≡ At p t no_edge
+  pub with_is : {p : Point} → has ts v t ≡ true → p ≡ centroid vs ts t → centroid_with vs ts v t ≡ At p t no_edge
   unfolding centroid_with
-  with-is h q = rw (h, q)
+  with_is h q = rw (h, q)
 
-  pub with-not : has ts v t ≡ false → centroid_with vs ts v t ≡ Nothing
+  pub with_not : has ts v t ≡ false → centroid_with vs ts v t ≡ Nothing
   unfolding centroid_with
-  with-not h = rw h
+  with_not h = rw h
 
 -- ---- the least of the n numbers from u
 
@@ -109,11 +109,11 @@ module _ (l : List Float) (u n i best : ℕ) (value : Float) {w : ℕ} (fits : u
   next : drop i (part l u n) ≡ get_or l (u + i) nan ∷ drop (i + 1) (part l u n)
   next = rw add-one (drop-cons (part l u n) i nan (omega (arith, length_part l u n fits)) ∙ rw (get_d_part l u n i nan more))
 
-  pub least-less : lt (get_or l (u + i) nan) value ≡ true → w ≡ least_from (i + 1) i (get_or l (u + i) nan) (drop (i + 1) (part l u n))
-  least-less h = sofar ∙ ap (λ (us : List Float). least_from i best value us) next ∙ one_less i best value (get_or l (u + i) nan) (drop (i + 1) (part l u n)) h
+  pub least_less : lt (get_or l (u + i) nan) value ≡ true → w ≡ least_from (i + 1) i (get_or l (u + i) nan) (drop (i + 1) (part l u n))
+  least_less h = sofar ∙ ap (λ (us : List Float). least_from i best value us) next ∙ one_less i best value (get_or l (u + i) nan) (drop (i + 1) (part l u n)) h
 
-  pub least-not : lt (get_or l (u + i) nan) value ≡ false → w ≡ least_from (i + 1) best value (drop (i + 1) (part l u n))
-  least-not h = sofar ∙ ap (λ (us : List Float). least_from i best value us) next ∙ one_not i best value (get_or l (u + i) nan) (drop (i + 1) (part l u n)) h
+  pub least_not : lt (get_or l (u + i) nan) value ≡ false → w ≡ least_from (i + 1) best value (drop (i + 1) (part l u n))
+  least_not h = sofar ∙ ap (λ (us : List Float). least_from i best value us) next ∙ one_not i best value (get_or l (u + i) nan) (drop (i + 1) (part l u n)) h
 
 pub least_done : (l : List Float) (u n i best : ℕ) (value : Float) {w : ℕ} → u + n ≤ length l → n ≤ i → w ≡ least_from i best value (drop i (part l u n)) → best ≡ w
 unfolding least_from

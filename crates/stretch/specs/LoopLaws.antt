@@ -4,15 +4,15 @@ use Rattle.std.specs.Prelude.{◌≡◌, List, [], ◌∷◌, ◌++◌, ℕ, ◌
 use Rattle.std.proofs.Common.{sym, ap, ◌∙◌, add-one, arith}
 use Rattle.std.proofs.lemmas.List.{length-replicate, replicate-append-replicate}
 use Rattle.stretch.specs.Stretch.{part, splice, Copies}
-use Rattle.stretch.specs.StretchLaws.{length_part, part-zero, part-suc, splice-nil, splice-snoc, get_or-splice-ahead}
+use Rattle.stretch.specs.StretchLaws.{length_part, part_zero, part_suc, splice_nil, splice_snoc, get_or-splice-ahead}
 
 module _ {ℓ} {A : Type ℓ} where
   -- any such loop: `new` is what it has written
-  pub write-none : (s : List A) (at : ℕ) → s ≡ splice s at []
-  write-none s at = sym (splice-nil s at)
+  pub write_none : (s : List A) (at : ℕ) → s ≡ splice s at []
+  write_none s at = sym (splice_nil s at)
 
   pub write_step : (s l : List A) (at i : ℕ) (new : List A) (v : A) → length new ≡ i → l ≡ splice s at new → set l (at + i) v ≡ splice s at (new ++ (v ∷ []))
-  write_step s l at i new v e p = rw (p, ← e) (sym (splice-snoc s at new v))
+  write_step s l at i new v e p = rw (p, ← e) (sym (splice_snoc s at new v))
 
   -- one value over and over
   pub fill_step : (s l : List A) (at i : ℕ) (v : A) → l ≡ splice s at (replicate i v) → set l (at + i) v ≡ splice s at (replicate (i + 1) v)
@@ -21,7 +21,7 @@ module _ {ℓ} {A : Type ℓ} where
 
   -- a stretch of the same buffer; d is what a read past the end gives
   pub copy_none : (s : List A) (src at : ℕ) → s ≡ splice s at (part s src 0)
-  copy_none s src at = rw part-zero (write-none s at)
+  copy_none s src at = rw part_zero (write_none s at)
 
   pub copy_step : (s l : List A) (src at n i : ℕ) (d : A) → Copies (length s) src at n → i < n → l ≡ splice s at (part s src i)
       → set l (at + i) (get_or l (src + i) d) ≡ splice s at (part s src (i + 1))
@@ -30,4 +30,4 @@ module _ {ℓ} {A : Type ℓ} where
       let f : src + i < length s = omega arith in
       let g : get_or l (src + i) d ≡ get_or s (src + i) d =
       ap (λ (r : List A). get_or r (src + i) d) p ∙ get_or-splice-ahead s at (part s src i) src n i d e h c.read in
-      rw (g, add-one, part-suc s src i d) (write_step s l at i (part s src i) (get_or s (src + i) d) e p)
+      rw (g, add-one, part_suc s src i d) (write_step s l at i (part s src i) (get_or s (src + i) d) e p)

@@ -24,7 +24,7 @@ less a r q = r ⊖ a ⊗ q
 -- In a buffer of l places, the n from `at` can be written from the n from u and the n from v, pair by pair.
 pub record Zips (l at u v n : ℕ) : Type 0 where
   pub fits : at + n ≤ l
-  pub u-fits : u + n ≤ l
-  pub v-fits : v + n ≤ l
-  pub u-read : Readable at u n
-  pub v-read : Readable at v n
+  pub u_fits : u + n ≤ l
+  pub v_fits : v + n ≤ l
+  pub u_read : Readable at u n
+  pub v_read : Readable at v n

@@ -2,7 +2,7 @@
 use Rattle.std.specs.Prelude.{◌≡◌, refl, List, [], ◌∷◌, ◌++◌, ℕ, ◌+◌, ◌≤◌, ◌<◌, length, take, get_or, set}
 use Rattle.std.proofs.Common.{sym, ap, ◌∙◌, add-zero, add-one, arith, length-append, take-suc, take_all, length-take-le}
 use Rattle.stretch.specs.Stretch.{splice}
-use Rattle.stretch.specs.StretchLaws.{length-splice, splice-nil, splice-one, splice-append}
+use Rattle.stretch.specs.StretchLaws.{length-splice, splice_nil, splice-one, splice-append}
 use Rattle.stretch.specs.LoopLaws.{write_step}
 use Rattle.text.specs.Put.{Puts, Left, Printed}
 
@@ -42,7 +42,7 @@ left_last {s} {l} {m} {text} {a} {at} {next} {then} q p = record { is = q.is ∙
 
 -- nothing is left
 pub left_none : {s l text : List ℕ} {at next : ℕ} → Left s at text l next [] → Puts s at text next l
-left_none {s} {l} {text} {at} {next} p = record { is = sym (splice-nil l next) ∙ p.is; goes = sym (add-zero next) ∙ p.goes; long = p.long }
+left_none {s} {l} {text} {at} {next} p = record { is = sym (splice_nil l next) ∙ p.is; goes = sym (add-zero next) ∙ p.goes; long = p.long }
 
 -- ---- bytes
 

@@ -7,7 +7,7 @@ use Rattle.std.specs.Float.{nan, inf, fin, binary64}
 use Rattle.std.specs.Float.Ieee.{up, down, ne, eq, is_nan, to_bits}
 use Rattle.binary64.specs.Number.{pick}
 use Rattle.stretch.specs.Stretch.{splice}
-use Rattle.stretch.specs.StretchLaws.{splice-nil, splice-snoc, set-splice-after}
+use Rattle.stretch.specs.StretchLaws.{splice_nil, splice_snoc, set-splice-after}
 use Rattle.text.specs.Put.{Puts}
 use Rattle.text.specs.PutLaws.{puts}
 use Rattle.text.specs.Text.{glyph, digits, places_by, places, decimal, hex_of, space, newline, word, numbers, line, singles, pairs, end_line, refused_text, run_text}
@@ -40,7 +40,7 @@ pub digit_last : (l : List ℕ) (at b k n : ℕ) → splice (set l (at + k) (gly
 unfolding digits
 digit_last l at b k n =
     let e : length (digits b k (n / b)) ≡ k = length_digits b k (n / b) in
-    sym (splice-snoc l at (digits b k (n / b)) (glyph (n % b)) ∙ ap (λ (j : ℕ). set (splice l at (digits b k (n / b))) (at + j) (glyph (n % b))) e
+    sym (splice_snoc l at (digits b k (n / b)) (glyph (n % b)) ∙ ap (λ (j : ℕ). set (splice l at (digits b k (n / b))) (at + j) (glyph (n % b))) e
     ∙ set-splice-after l at (digits b k (n / b)) (at + k) (glyph (n % b)) (omega arith))
 
 -- a turn of the loop that puts them down, from the last to the first: w is the buffer as it will be
@@ -50,7 +50,7 @@ digit_step l w at b (suc k) n h e = let p : suc k - 1 ≡ k = omega arith in rw 
 
 pub digits_none : (l w : List ℕ) (at b n : ℕ) → splice l at (digits b 0 n) ≡ w → l ≡ w
 unfolding digits
-digits_none l w at b n e = sym (splice-nil l at) ∙ e
+digits_none l w at b n e = sym (splice_nil l at) ∙ e
 
 -- ---- how many digits
 
@@ -63,9 +63,9 @@ places_few_by (suc k) n h = few (ltb n 10) refl
     few true e = refl
     few false e = absurd (omega (arith, ltb-false n 10 e))
 
-places-more_by : (k n : ℕ) → 10 ≤ n → places_by (suc k) n ≡ suc (places_by k (n / 10))
+places_more_by : (k n : ℕ) → 10 ≤ n → places_by (suc k) n ≡ suc (places_by k (n / 10))
 unfolding places_by
-places-more_by k n h = more (ltb n 10) refl
+places_more_by k n h = more (ltb n 10) refl
   where
     more : (t : Bool) → ltb n 10 ≡ t → pick t 1 (suc (places_by k (n / 10))) ≡ suc (places_by k (n / 10))
     more true e = absurd (omega (arith, ltb-true n 10 e))
@@ -81,12 +81,12 @@ places_same (suc k) n h = cases (ltb n 10) refl (places_same k (n / 10))
     cases false e r =
         let z : n < 10 ^ suc k * 10 = rw (← (pow-suc 10 (suc k))) h in
         let y : 10 ≤ n = ltb-false n 10 e in
-        places-more_by k n y ∙ ap suc (r (omega arith)) ∙ sym (places-more_by (suc k) n y)
+        places_more_by k n y ∙ ap suc (r (omega arith)) ∙ sym (places_more_by (suc k) n y)
 
-places-most_by : (k n : ℕ) → places_by k n ≤ suc k
+places_most_by : (k n : ℕ) → places_by k n ≤ suc k
 unfolding places_by
-places-most_by zero n = omega arith
-places-most_by (suc k) n = most (ltb n 10) (places-most_by k (n / 10))
+places_most_by zero n = omega arith
+places_most_by (suc k) n = most (ltb n 10) (places_most_by k (n / 10))
   where
     most : (t : Bool) → places_by k (n / 10) ≤ suc k → pick t 1 (suc (places_by k (n / 10))) ≤ suc (suc k)
     most true r = omega arith
@@ -98,11 +98,11 @@ places_few n h = places_few_by 19 n h
 
 pub places-more : (n : ℕ) → 10 ≤ n → n < 18446744073709551616 → places n ≡ suc (places (n / 10))
 unfolding places
-places-more n h k = places-more_by 18 n h ∙ ap suc (places_same 18 (n / 10) (omega arith))
+places-more n h k = places_more_by 18 n h ∙ ap suc (places_same 18 (n / 10) (omega arith))
 
 pub places-most : (n : ℕ) → places n ≤ 20
 unfolding places
-places-most n = places-most_by 19 n
+places-most n = places_most_by 19 n
 
 pub length-decimal : (n : ℕ) → length (decimal n) ≡ places n
 unfolding decimal
@@ -143,24 +143,24 @@ ne_self (fin s m e) = ap not (ap (λ (a : Bool). a && (beq s s || eqb (m * up e 
 
 -- ---- lines
 
-pub length-line_1 : (letter : ℕ) (x : Float) → length (line letter (x ∷ [])) ≡ 19
+pub length_line_1 : (letter : ℕ) (x : Float) → length (line letter (x ∷ [])) ≡ 19
 unfolding line numbers
-length-line_1 letter x = simp length-append (omega (arith, length_hex x))
+length_line_1 letter x = simp length-append (omega (arith, length_hex x))
 
-pub length-line_2 : (letter : ℕ) (x y : Float) → length (line letter (x ∷ y ∷ [])) ≡ 36
+pub length_line_2 : (letter : ℕ) (x y : Float) → length (line letter (x ∷ y ∷ [])) ≡ 36
 unfolding line numbers
-length-line_2 letter x y = simp length-append (omega (arith, length_hex x, length_hex y))
+length_line_2 letter x y = simp length-append (omega (arith, length_hex x, length_hex y))
 
 pub length-singles : (letter : ℕ) (xs : List Float) → length (singles letter xs) ≡ 19 * length xs
 unfolding singles
 length-singles letter [] = refl
-length-singles letter (x ∷ xs) = rw length-append (omega (arith, length-line_1 letter x, length-singles letter xs))
+length-singles letter (x ∷ xs) = rw length-append (omega (arith, length_line_1 letter x, length-singles letter xs))
 
 pub length_pairs : (letter : ℕ) (xs : List Float) → length (pairs letter xs) ≤ 18 * length xs
 unfolding pairs
 length_pairs letter [] = omega arith
 length_pairs letter (x ∷ []) = omega arith
-length_pairs letter (x ∷ y ∷ xs) = rw length-append (omega (arith, length-line_2 letter x y, length_pairs letter xs))
+length_pairs letter (x ∷ y ∷ xs) = rw length-append (omega (arith, length_line_2 letter x y, length_pairs letter xs))
 
 -- a line in pieces
 pub line_1 : (letter : ℕ) (x : Float) → line letter (x ∷ []) ≡ (letter ∷ []) ++ ((space ∷ []) ++ (hex_of x ++ (newline ∷ [])))

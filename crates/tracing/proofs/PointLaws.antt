@@ -4,7 +4,7 @@ use lib.Ieee.{Float, binary64, of_int}
 use Rattle.binary64.specs.Arith.{◌⊕◌, ◌⊖◌, ◌⊗◌, ◌⊘◌}
 use Rattle.plane.specs.declared.Point.{Point}
 use Rattle.stretch.specs.Stretch.{splice}
-use Rattle.stretch.specs.StretchLaws.{splice-nil, splice-append}
+use Rattle.stretch.specs.StretchLaws.{splice_nil, splice-append}
 use Rattle.mesh.specs.Pair.{pair_step}
 use Rattle.pde.specs.declared.Beyond.{Beyond}
 use Rattle.pde.specs.declared.Crossing.{Crossing}
@@ -17,7 +17,7 @@ use Rattle.pde.specs.PathLaws.{length_coordinates, coordinates_append, length-al
 -- s is the buffer at entry, l as it is now
 pub along_none : (s : List Float) (at : ℕ) (p : Point) (dx dy : Float) (n : ℕ) → s ≡ splice s at (coordinates_of (along p dx dy n 0))
 unfolding along coordinates_of
-along_none s at p dx dy n = sym (splice-nil s at)
+along_none s at p dx dy n = sym (splice_nil s at)
 
 pub along_step : (s l : List Float) (at : ℕ) (p : Point) (dx dy : Float) (n i : ℕ) (a b : Float) → b ≡ of_int binary64 (pos n) → a ≡ of_int binary64 (pos (i + 1)) → l ≡ splice s at (coordinates_of (along p dx dy n i))
     → set (set l (at + 2 * i) (p.x ⊕ a ⊘ b ⊗ dx)) (at + 2 * i + 1) (p.y ⊕ a ⊘ b ⊗ dy) ≡ splice s at (coordinates_of (along p dx dy n (i + 1)))
@@ -34,11 +34,11 @@ along_done s l at p q n k i e h = rw e at h
 
 pub closing_none : (s : List Float) (at : ℕ) → s ≡ splice s at (coordinates_of [])
 unfolding coordinates_of
-closing_none s at = sym (splice-nil s at)
+closing_none s at = sym (splice_nil s at)
 
 pub closing_put : (s : List Float) (at : ℕ) (q : Point) → set (set s at q.x) (at + 1) q.y ≡ splice s at (coordinates_of (q ∷ []))
 unfolding coordinates_of
-closing_put s at q = rw add-zero at (pair_step s s at 0 [] q refl (sym (splice-nil s at)))
+closing_put s at q = rw add-zero at (pair_step s s at 0 [] q refl (sym (splice_nil s at)))
 
 -- ---- out of a triangle
 
@@ -56,12 +56,12 @@ module _ (room : ℕ) (w : Walk) (q : Point) (n : ℕ) (b : Beyond) {i e : ℕ} 
 
   pub put_full : (path : List Float) → room - w.points < i + e → path ≡ splice path (point_floats * w.points) (coordinates_of (added room w (Crossing.Leaves q n b)))
   unfolding coordinates_of
-  put_full path f = rw (full f) (sym (splice-nil path (point_floats * w.points)))
+  put_full path f = rw (full f) (sym (splice_nil path (point_floats * w.points)))
 
   -- they fit
-  pub left-on : (last : Bool) {r : Walk} → i + e ≤ room - w.points → r ≡ gone last w q b (i + e) → r ≡ walked room last w (Crossing.Leaves q n b)
+  pub left_on : (last : Bool) {r : Walk} → i + e ≤ room - w.points → r ≡ gone last w q b (i + e) → r ≡ walked room last w (Crossing.Leaves q n b)
   unfolding walked
-  left-on last f p = rw (fits f, ← isi, ← ise) p
+  left_on last f p = rw (fits f, ← isi, ← ise) p
 
   pub put_on : (path : List Float) {path' path'' : List Float} → i + e ≤ room - w.points → path' ≡ splice path (point_floats * w.points) (coordinates_of (between w.position q n i))
       → path'' ≡ splice path' (2 * (w.points + i)) (coordinates_of (closing q b)) → path'' ≡ splice path (point_floats * w.points) (coordinates_of (added room w (Crossing.Leaves q n b)))
@@ -82,8 +82,8 @@ walk_stuck room last w r c e p = rw e p
 
 pub put_dull : (room : ℕ) (w : Walk) (path : List Float) (c : Crossing) → c ≡ Crossing.Dull → path ≡ splice path (point_floats * w.points) (coordinates_of (added room w c))
 unfolding coordinates_of
-put_dull room w path c e = rw e (sym (splice-nil path (point_floats * w.points)))
+put_dull room w path c e = rw e (sym (splice_nil path (point_floats * w.points)))
 
 pub put_stuck : (room : ℕ) (w : Walk) (path : List Float) (c : Crossing) → c ≡ Crossing.Stuck → path ≡ splice path (point_floats * w.points) (coordinates_of (added room w c))
 unfolding coordinates_of
-put_stuck room w path c e = rw e (sym (splice-nil path (point_floats * w.points)))
+put_stuck room w path c e = rw e (sym (splice_nil path (point_floats * w.points)))

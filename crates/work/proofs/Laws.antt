@@ -14,7 +14,7 @@ use Rattle.plane.specs.declared.Point.{Point}
 use Rattle.pde.specs.declared.Crossing.{Crossing}
 use Rattle.pde.specs.Path.{point_floats, coordinates_of, added}
 use Rattle.stretch.specs.Stretch.{splice}
-use Rattle.stretch.specs.StretchLaws.{splice-one, splice-snoc}
+use Rattle.stretch.specs.StretchLaws.{splice-one, splice_snoc}
 use Rattle.work.specs.declared.Gives.{Gives}
 use Rattle.work.specs.declared.Plan.{Plan}
 use Rattle.work.specs.declared.Stand.{Stand}
@@ -22,12 +22,12 @@ use Rattle.work.specs.declared.Step.{Step}
 use Rattle.work.specs.Layout.{at_norms}
 use Rattle.work.specs.Memory.{floats_given, path_given, once, goes, Work, work, front_of, beyond_front}
 use Rattle.work.specs.DryLaws.{step_length}
-use Rattle.work.specs.StandingLaws.{once-standing, once-place, goes_add, goes_over}
+use Rattle.work.specs.StandingLaws.{once_standing, once_place, goes_add, goes_over}
 use Rattle.work.specs.Ready.{Ready, Standing, Roomy, Writable, Steps, Comes}
 
 -- two stores in a row
 pub put_two : {A : Type 0} (l : List A) (x y : A) → set (set l 0 x) 1 y ≡ splice l 0 (x ∷ y ∷ [])
-put_two l x y = sym (splice-snoc l 0 (x ∷ []) y ∙ ap (λ m. set m 1 y) (splice-one l 0 x))
+put_two l x y = sym (splice_snoc l 0 (x ∷ []) y ∙ ap (λ m. set m 1 y) (splice-one l 0 x))
 
 -- ---- what a pass gives, once it is written
 
@@ -57,13 +57,13 @@ pick_small false = omega arith
 
 pub writable : (plan : Plan) (words : List ℕ) (s : Stand) (m p : List Float) (l k : ℕ) → Ready plan words → Standing plan s → Roomy plan m p → l ≡ length m → k ≡ length p → Writable plan s l k
 writable plan words s m p l k r st ro e h = record {
-  n-most = r.n-most;
-  t-most = r.t-most;
-  norms-fit = omega (arith, st.norms_most, pick_small (eqb s.end 0), ro.floats-fit);
-  points-most = st.points-most;
-  room-least = r.room-least;
+  n_most = r.n_most;
+  t_most = r.t_most;
+  norms_fit = omega (arith, st.norms_most, pick_small (eqb s.end 0), ro.floats_fit);
+  points_most = st.points_most;
+  room_least = r.room_least;
   room_most = r.room_most;
-  path-fit = omega (arith, ro.path-fit);
+  path_fit = omega (arith, ro.path_fit);
 }
 
 -- a step keeps the front's length, and so that of the floats
@@ -87,7 +87,7 @@ once_comes plan words s m p f m' p' d k e st dl =
 
 -- buffers as long are as roomy
 pub roomy_as_long : {plan : Plan} {m p : List Float} (m' p' : List Float) → Roomy plan m p → length m' ≡ length m → length p' ≡ length p → Roomy plan m' p'
-roomy_as_long m' p' r e h = record { floats-fit = omega (arith, r.floats-fit); path-fit = omega (arith, r.path-fit) }
+roomy_as_long m' p' r e h = record { floats_fit = omega (arith, r.floats_fit); path_fit = omega (arith, r.path_fit) }
 
 -- what has come to w is w
 pub came : {w : Work} {s : Stand} {m p : List Float} → Comes w s m p → work m p s ≡ w
@@ -109,8 +109,8 @@ module _ (plan : Plan) (words : List ℕ) where
   pub goes-ended : (w : Work) (i k : ℕ) (s : Stand) (m p : List Float) → Comes (goes plan words i w) s m p → i ≤ k → (s.walk.end ≡ 0 → ⊥) → Comes (goes plan words k w) s m p
   goes-ended w i k s m p c h n = comes_to (sym (goes_over plan words w i k h (λ e. n (ap (λ (v : Stand). v.walk.end) c.stand ∙ e)))) c
 
-  pub goes-done : (w : Work) (i k : ℕ) (s : Stand) (m p : List Float) → Comes (goes plan words i w) s m p → i ≡ k → Comes (goes plan words k w) s m p
-  goes-done w i k s m p c e = comes_to (ap (λ (j : ℕ). goes plan words j w) e) c
+  pub goes_done : (w : Work) (i k : ℕ) (s : Stand) (m p : List Float) → Comes (goes plan words i w) s m p → i ≡ k → Comes (goes plan words k w) s m p
+  goes_done w i k s m p c e = comes_to (ap (λ (j : ℕ). goes plan words j w) e) c
 
   -- passes in a row, and more of them
   pub goes_on : (w : Work) (i j k : ℕ) (s s' : Stand) (m p m' p' : List Float) → Comes (goes plan words i w) s m p → Comes (goes plan words j (work m p s)) s' m' p' → i + j ≡ k
@@ -118,8 +118,8 @@ module _ (plan : Plan) (words : List ℕ) where
   goes_on w i j k s s' m p m' p' c d e = comes_to (ap (goes plan words j) (came c) ∙ sym (goes_add plan words w i j) ∙ ap (λ (n : ℕ). goes plan words n w) e) d
 
   -- the counts after a pass
-  pub came-standing : (s s' : Stand) (m p m' p' : List Float) → Comes (once plan words (work m p s)) s' m' p' → Ready plan words → Standing plan s → Standing plan s'
-  came-standing s s' m p m' p' c r st = subst (Standing plan) (sym c.stand) (once-standing plan words (work m p s) r st)
+  pub came_standing : (s s' : Stand) (m p m' p' : List Float) → Comes (once plan words (work m p s)) s' m' p' → Ready plan words → Standing plan s → Standing plan s'
+  came_standing s s' m p m' p' c r st = subst (Standing plan) (sym c.stand) (once_standing plan words (work m p s) r st)
 
-  pub came-place : (s s' : Stand) (m p m' p' : List Float) → Comes (once plan words (work m p s)) s' m' p' → s'.place ≤ s.place + 1
-  came-place s s' m p m' p' c = omega (arith, ap (λ (v : Stand). v.place) c.stand, once-place plan words (work m p s))
+  pub came_place : (s s' : Stand) (m p m' p' : List Float) → Comes (once plan words (work m p s)) s' m' p' → s'.place ≤ s.place + 1
+  came_place s s' m p m' p' c = omega (arith, ap (λ (v : Stand). v.place) c.stand, once_place plan words (work m p s))

@@ -22,4 +22,4 @@ pub record Counts (plan : Plan) (words : List ℕ) (s : Stand) (k : ℕ) (m : Li
   pub ready : Ready plan words
   pub standing : Standing plan s
   pub near : s.place + k < 1000000
-  pub floats-fit : float_space plan.n plan.t plan.limit ≤ length m
+  pub floats_fit : float_space plan.n plan.t plan.limit ≤ length m

@@ -15,20 +15,20 @@ use Rattle.work.specs.Memory.{step_on, Work, work}
 
 -- the plan's counts, and the indices in the words
 pub record Ready (plan : Plan) (words : List ℕ) : Type 0 where
-  pub n-most : plan.n ≤ max_vertices
-  pub t-most : plan.t ≤ max_triangles
+  pub n_most : plan.n ≤ max_vertices
+  pub t_most : plan.t ≤ max_triangles
   pub limit-most : plan.limit ≤ max_limit
-  pub room-least : 1 ≤ plan.room
+  pub room_least : 1 ≤ plan.room
   pub room_most : plan.room ≤ max_room
   pub sound : Sound words (matrix_at plan.n plan.t)
   pub linked : Linked words (mesh_at plan.n plan.t)
 
 -- the counts of a place: while solving a norm more fits; a path has a triangle, and while it has no end a crossing is left
 pub record Standing (plan : Plan) (s : Stand) : Type 0 where
-  pub norms-least : 1 ≤ s.norms
+  pub norms_least : 1 ≤ s.norms
   pub norms_most : s.norms ≤ plan.limit + pick (eqb s.end 0) 0 1
-  pub points-most : s.walk.points ≤ plan.room
-  pub triangle-in : 0 < s.walk.points → s.walk.triangle < plan.t
+  pub points_most : s.walk.points ≤ plan.room
+  pub triangle_in : 0 < s.walk.points → s.walk.triangle < plan.t
   pub edge_in : s.walk.edge ≤ 3
   pub crossings_left : s.walk.end ≡ 0 → 0 < s.walk.points → s.crossings < factor * plan.t
 
@@ -42,18 +42,18 @@ MarkKeeping plan (Mark.At k) = Keeping plan k
 
 -- the lent floats and path are long enough
 pub record Roomy (plan : Plan) (floats path : List Float) : Type 0 where
-  pub floats-fit : float_space plan.n plan.t plan.limit ≤ length floats
-  pub path-fit : path_space plan.room ≤ length path
+  pub floats_fit : float_space plan.n plan.t plan.limit ≤ length floats
+  pub path_fit : path_space plan.room ≤ length path
 
 -- what a pass gives from s can be written to buffers of these lengths
 pub record Writable (plan : Plan) (s : Stand) (floats path : ℕ) : Type 0 where
-  pub n-most : plan.n ≤ max_vertices
-  pub t-most : plan.t ≤ max_triangles
-  pub norms-fit : at_norms plan.n plan.t + s.norms < floats
-  pub points-most : s.walk.points ≤ plan.room
-  pub room-least : 1 ≤ plan.room
+  pub n_most : plan.n ≤ max_vertices
+  pub t_most : plan.t ≤ max_triangles
+  pub norms_fit : at_norms plan.n plan.t + s.norms < floats
+  pub points_most : s.walk.points ≤ plan.room
+  pub room_least : 1 ≤ plan.room
   pub room_most : plan.room ≤ max_room
-  pub path-fit : path_space plan.room ≤ path
+  pub path_fit : path_space plan.room ≤ path
 
 -- the next pass is a crossing
 pub record Crosses (s : Stand) : Type 0 where

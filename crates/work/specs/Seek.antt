@@ -10,13 +10,13 @@ use Rattle.work.specs.Ready.{Ready, Standing, Roomy, MarkKeeping}
 
 -- the filled places of the norms and the path lie within the buffers
 pub record Erasable (plan : Plan) (s : Stand) (floats path : List Float) : Type 0 where
-  pub n-most : plan.n ≤ max_vertices
-  pub t-most : plan.t ≤ max_triangles
+  pub n_most : plan.n ≤ max_vertices
+  pub t_most : plan.t ≤ max_triangles
   pub limit-most : plan.limit ≤ max_limit
   pub room_most : plan.room ≤ max_room
-  pub norms-least : 1 ≤ s.norms
+  pub norms_least : 1 ≤ s.norms
   pub norms_most : s.norms ≤ plan.limit + 1
-  pub points-most : s.walk.points ≤ plan.room
+  pub points_most : s.walk.points ≤ plan.room
   pub roomy : Roomy plan floats path
 
 -- the vectors begun again, and the whole floats of place 0, which no path bears on; r is r·r, m the floats before, m' after it

@@ -12,8 +12,8 @@ use Rattle.work.specs.declared.Mark.{Mark}
 use Rattle.work.specs.declared.Origin.{Origin}
 use Rattle.work.specs.Memory.{Work, pathless, from_mark, origin_of, to_started, to_solved, to_kept, to_zero, from_origin, once, goes, seek}
 use Rattle.work.specs.Ready.{Ready, Standing, Keeping, MarkKeeping}
-use Rattle.work.specs.StandingLaws.{once-standing, once-place, goes_standing, goes_place}
-use Rattle.work.specs.StartedLaws.{started-stand}
+use Rattle.work.specs.StandingLaws.{once_standing, once_place, goes_standing, goes_place}
+use Rattle.work.specs.StartedLaws.{started_stand}
 
 -- ---- from where a place is sought
 
@@ -56,10 +56,10 @@ origin_elim P limit s mark target here started solved kept none = go (leb s.plac
 
 pathless_standing : (plan : Plan) (place : ℕ) (rs : Float) (norms e : ℕ) → 1 ≤ norms → norms ≤ plan.limit + pick (eqb e 0) 0 1 → Standing plan (pathless place rs norms e)
 pathless_standing plan place rs norms e h k = record {
-  norms-least = h;
+  norms_least = h;
   norms_most = k;
-  points-most = omega arith;
-  triangle-in = λ z. absurd (omega arith);
+  points_most = omega arith;
+  triangle_in = λ z. absurd (omega arith);
   edge_in = omega arith;
   crossings_left = λ _ z. absurd (omega arith);
 }
@@ -74,35 +74,35 @@ module _ (plan : Plan) (words : List ℕ) (mark : Mark) (target : ℕ) (w : Work
   from_place =
       origin_elim (λ (o : Origin). (from_origin plan words o w).stand.place ≤ target) plan.limit w.stand mark target
       (λ h. h)
-      (λ n h. let e : (to_started plan words w).stand.place ≡ (once plan words (to_solved plan w)).stand.place = ap (λ (s : Stand). s.place) (started-stand plan words w n) in
-      let l : (once plan words (to_solved plan w)).stand.place ≤ solved_at w.stand.norms w.stand.end + 1 = once-place plan words (to_solved plan w) in
+      (λ n h. let e : (to_started plan words w).stand.place ≡ (once plan words (to_solved plan w)).stand.place = ap (λ (s : Stand). s.place) (started_stand plan words w n) in
+      let l : (once plan words (to_solved plan w)).stand.place ≤ solved_at w.stand.norms w.stand.end + 1 = once_place plan words (to_solved plan w) in
       omega arith)
       (λ _ h. h) (λ k _ h _. h) (omega arith)
 
-  pub from-standing : Ready plan words → Standing plan w.stand → MarkKeeping plan mark → Standing plan (from_origin plan words (origin_of plan.limit w.stand mark target) w).stand
+  pub from_standing : Ready plan words → Standing plan w.stand → MarkKeeping plan mark → Standing plan (from_origin plan words (origin_of plan.limit w.stand mark target) w).stand
   unfolding to_solved to_kept to_zero
-  from-standing r st m =
+  from_standing r st m =
       origin_elim (λ (o : Origin). Standing plan (from_origin plan words o w).stand) plan.limit w.stand mark target
       (λ _. st)
-      (λ n _. subst (Standing plan) (sym (started-stand plan words w n)) (once-standing plan words (to_solved plan w) r (pathless_standing plan _ _ w.stand.norms w.stand.end st.norms-least st.norms_most)))
-      (λ _ _. pathless_standing plan _ _ w.stand.norms w.stand.end st.norms-least st.norms_most)
+      (λ n _. subst (Standing plan) (sym (started_stand plan words w n)) (once_standing plan words (to_solved plan w) r (pathless_standing plan _ _ w.stand.norms w.stand.end st.norms_least st.norms_most)))
+      (λ _ _. pathless_standing plan _ _ w.stand.norms w.stand.end st.norms_least st.norms_most)
       (λ k e _ h. let g : Keeping plan k = rw e at m in pathless_standing plan _ _ k.norms 0 g.least (omega arith))
       (pathless_standing plan _ _ 1 _ (omega arith) (first_norm plan.limit))
 
-  pub seek-standing : Ready plan words → Standing plan w.stand → MarkKeeping plan mark → Standing plan (seek plan words mark target w).stand
+  pub seek_standing : Ready plan words → Standing plan w.stand → MarkKeeping plan mark → Standing plan (seek plan words mark target w).stand
   unfolding seek
-  seek-standing r st m =
+  seek_standing r st m =
       let o = from_origin plan words (origin_of plan.limit w.stand mark target) w in
-      goes_standing plan words o r (from-standing r st m) (target - o.stand.place)
+      goes_standing plan words o r (from_standing r st m) (target - o.stand.place)
 
-  pub seek-place : (seek plan words mark target w).stand.place ≤ target
+  pub seek_place : (seek plan words mark target w).stand.place ≤ target
   unfolding seek
-  seek-place =
+  seek_place =
       let o = from_origin plan words (origin_of plan.limit w.stand mark target) w in
       let h : o.stand.place ≤ target = from_place in
       omega (arith, goes_place plan words o (target - o.stand.place))
 
   -- a place not before the present one is reached by passes from here
-  pub seek-on : w.stand.place ≤ target → seek plan words mark target w ≡ goes plan words (target - w.stand.place) w
+  pub seek_on : w.stand.place ≤ target → seek plan words mark target w ≡ goes plan words (target - w.stand.place) w
   unfolding seek origin_of
-  seek-on h = rw (le-leb w.stand.place target h)
+  seek_on h = rw (le-leb w.stand.place target h)

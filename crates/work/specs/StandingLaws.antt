@@ -14,7 +14,7 @@ use Rattle.pde.specs.declared.Start.{Start}
 use Rattle.pde.specs.declared.Crossing.{Crossing}
 use Rattle.pde.specs.Path.{walked}
 use Rattle.pde.specs.PathLaws.{walked-most, walked_stands}
-use Rattle.pde.specs.Bounds.{StartIn, CrossingIn, containing_in, pick_start_in, crossing-in}
+use Rattle.pde.specs.Bounds.{StartIn, CrossingIn, containing_in, pick_start_in, crossing_in_lem}
 use Rattle.model.specs.Space.{factor}
 use Rattle.model.specs.Run.{rule, next_by}
 use Rattle.model.specs.PassLaws.{walked_last}
@@ -67,12 +67,12 @@ solved_standing : (plan : Plan) (s : Stand) (f : List Float) (turn : Turn) → S
 unfolding solved_step
 solved_standing plan s f halted st e =
     let h : s.norms ≤ plan.limit = unsolved_norms plan s st e in
-    record { norms-least = st.norms-least; norms_most = omega arith; points-most = st.points-most; triangle-in = st.triangle-in; edge_in = st.edge_in; crossings_left = st.crossings_left }
+    record { norms_least = st.norms_least; norms_most = omega arith; points_most = st.points_most; triangle_in = st.triangle_in; edge_in = st.edge_in; crossings_left = st.crossings_left }
 solved_standing plan s f (reached x r norm) st e =
     let h : s.norms ≤ plan.limit = unsolved_norms plan s st e in
-    record { norms-least = omega arith; norms_most = omega arith; points-most = st.points-most; triangle-in = st.triangle-in; edge_in = st.edge_in; crossings_left = st.crossings_left }
+    record { norms_least = omega arith; norms_most = omega arith; points_most = st.points_most; triangle_in = st.triangle_in; edge_in = st.edge_in; crossings_left = st.crossings_left }
 solved_standing plan s f (moved next norm) st e =
-    record { norms-least = omega arith; norms_most = most (leb plan.limit s.norms) refl; points-most = st.points-most; triangle-in = st.triangle-in; edge_in = st.edge_in; crossings_left = st.crossings_left }
+    record { norms_least = omega arith; norms_most = most (leb plan.limit s.norms) refl; points_most = st.points_most; triangle_in = st.triangle_in; edge_in = st.edge_in; crossings_left = st.crossings_left }
   where
     h : s.norms ≤ plan.limit
     h = unsolved_norms plan s st e
@@ -90,18 +90,18 @@ solve_standing plan words f s st e = solved_standing plan s f (turn_of plan word
 pub set_out_standing : (plan : Plan) (words : List ℕ) (s : Stand) (f : List Float) (k : ℕ) (st : Start) → Ready plan words → Standing plan s → StartIn plan.t st → Standing plan (set_out_step s f k st).stand
 unfolding set_out_step
 set_out_standing plan words s f k (Start.At p t e) r h b = record {
-  norms-least = h.norms-least;
+  norms_least = h.norms_least;
   norms_most = h.norms_most;
-  points-most = r.room-least;
-  triangle-in = λ _. b.0;
+  points_most = r.room_least;
+  triangle_in = λ _. b.0;
   edge_in = b.1;
   crossings_left = λ _ _. omega (arith, b.0);
 }
 set_out_standing plan words s f k Start.Nothing r h b = record {
-  norms-least = h.norms-least;
+  norms_least = h.norms_least;
   norms_most = h.norms_most;
-  points-most = omega arith;
-  triangle-in = λ z. absurd (omega arith);
+  points_most = omega arith;
+  triangle_in = λ z. absurd (omega arith);
   edge_in = omega arith;
   crossings_left = λ _ z. absurd (omega arith);
 }
@@ -118,30 +118,30 @@ begin_standing plan words f s r st = start_standing plan words f s plan.start r 
 
 module _ (plan : Plan) (s : Stand) (x : Crossing) where
   -- a crossing that has no end is not the last
-  on-left : (b : Bool) → eqb (s.crossings + 1) (factor * plan.t) ≡ b → s.crossings < factor * plan.t → (walked plan.room b s.walk x).end ≡ 0 → s.crossings + 1 < factor * plan.t
-  on-left true e h k = absurd (walked_last plan.room s.walk x k)
-  on-left false e h k = let n : s.crossings + 1 ≡ factor * plan.t → ⊥ = eqb-false _ _ e in omega arith
+  on_left : (b : Bool) → eqb (s.crossings + 1) (factor * plan.t) ≡ b → s.crossings < factor * plan.t → (walked plan.room b s.walk x).end ≡ 0 → s.crossings + 1 < factor * plan.t
+  on_left true e h k = absurd (walked_last plan.room s.walk x k)
+  on_left false e h k = let n : s.crossings + 1 ≡ factor * plan.t → ⊥ = eqb-false _ _ e in omega arith
 
-  pub on-standing : (b : Bool) → eqb (s.crossings + 1) (factor * plan.t) ≡ b → Standing plan s → s.walk.end ≡ 0 → (s.walk.points ≡ 0 → ⊥) → CrossingIn plan.t x
+  pub on_standing : (b : Bool) → eqb (s.crossings + 1) (factor * plan.t) ≡ b → Standing plan s → s.walk.end ≡ 0 → (s.walk.points ≡ 0 → ⊥) → CrossingIn plan.t x
       → Standing plan (walked_stand s (walked plan.room b s.walk x) (s.crossings + 1))
-  on-standing b eb st e n c =
+  on_standing b eb st e n c =
       let z : 0 < s.walk.points = omega arith in
-      let w = walked_stands plan.room b plan.t s.walk x c (record { triangle_below = st.triangle-in z; edge-most = st.edge_in }) in
+      let w = walked_stands plan.room b plan.t s.walk x c (record { triangle_below = st.triangle_in z; edge_most = st.edge_in }) in
       record {
-        norms-least = st.norms-least;
+        norms_least = st.norms_least;
         norms_most = st.norms_most;
-        points-most = walked-most plan.room b s.walk x st.points-most;
-        triangle-in = λ _. w.triangle_below;
+        points_most = walked-most plan.room b s.walk x st.points_most;
+        triangle_in = λ _. w.triangle_below;
         edge_in = w.edge-most;
-        crossings_left = λ h _. on-left b eb (st.crossings_left e z) h;
+        crossings_left = λ h _. on_left b eb (st.crossings_left e z) h;
       }
 
 cross_standing : (plan : Plan) (words : List ℕ) (f : List Float) (s : Stand) → Ready plan words → Standing plan s → s.walk.end ≡ 0 → (s.walk.points ≡ 0 → ⊥) → Standing plan (cross_step plan words f s).stand
 unfolding cross_step triangles_of neighbours_of
 cross_standing plan words f s r st e n =
-    on-standing plan s (crossing_of plan words f s) (eqb (s.crossings + 1) (factor * plan.t)) refl st e n
-    (crossing-in rule (part f 0 (2 * plan.n)) (part words 0 (3 * plan.t)) (part words (at_neighbours plan.t) (3 * plan.t)) plan.t (part f (at_x plan.n plan.t) plan.n) (neighbour_below r.linked) (part f (at_gradients plan.n plan.t) (2 * plan.t)) plan.step s.walk.position s.walk.triangle s.walk.edge
-    (st.triangle-in (omega arith)))
+    on_standing plan s (crossing_of plan words f s) (eqb (s.crossings + 1) (factor * plan.t)) refl st e n
+    (crossing_in_lem rule (part f 0 (2 * plan.n)) (part words 0 (3 * plan.t)) (part words (at_neighbours plan.t) (3 * plan.t)) plan.t (part f (at_x plan.n plan.t) plan.n) (neighbour_below r.linked) (part f (at_gradients plan.n plan.t) (2 * plan.t)) plan.step s.walk.position s.walk.triangle s.walk.edge
+    (st.triangle_in (omega arith)))
 
 -- ---- any pass
 
@@ -190,13 +190,13 @@ step_forth plan words f s = (step_follows plan words f s).0
 -- ---- passes in a row
 
 module _ (plan : Plan) (words : List ℕ) (w : Work) where
-  pub once-standing : Ready plan words → Standing plan w.stand → Standing plan (once plan words w).stand
+  pub once_standing : Ready plan words → Standing plan w.stand → Standing plan (once plan words w).stand
   unfolding once
-  once-standing r st = step_standing plan words (front_of plan w.floats) w.stand r st
+  once_standing r st = step_standing plan words (front_of plan w.floats) w.stand r st
 
-  pub once-place : (once plan words w).stand.place ≤ w.stand.place + 1
+  pub once_place : (once plan words w).stand.place ≤ w.stand.place + 1
   unfolding once
-  once-place = step_place plan words (front_of plan w.floats) w.stand
+  once_place = step_place plan words (front_of plan w.floats) w.stand
 
   -- one at a finished path changes nothing
   pub once-over : (w.stand.walk.end ≡ 0 → ⊥) → once plan words w ≡ w
@@ -206,12 +206,12 @@ module _ (plan : Plan) (words : List ℕ) (w : Work) where
 pub goes_standing : (plan : Plan) (words : List ℕ) (w : Work) → Ready plan words → Standing plan w.stand → (k : ℕ) → Standing plan (goes plan words k w).stand
 unfolding goes
 goes_standing plan words w r st zero = st
-goes_standing plan words w r st (suc k) = once-standing plan words (goes plan words k w) r (goes_standing plan words w r st k)
+goes_standing plan words w r st (suc k) = once_standing plan words (goes plan words k w) r (goes_standing plan words w r st k)
 
 pub goes_place : (plan : Plan) (words : List ℕ) (w : Work) (k : ℕ) → (goes plan words k w).stand.place ≤ w.stand.place + k
 unfolding goes
 goes_place plan words w zero = omega arith
-goes_place plan words w (suc k) = omega (arith, goes_place plan words w k, once-place plan words (goes plan words k w))
+goes_place plan words w (suc k) = omega (arith, goes_place plan words w k, once_place plan words (goes plan words k w))
 
 goes_further : (plan : Plan) (words : List ℕ) (w : Work) (i j : ℕ) → ((goes plan words i w).stand.walk.end ≡ 0 → ⊥) → goes plan words (i + j) w ≡ goes plan words i w
 unfolding goes

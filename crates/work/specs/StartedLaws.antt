@@ -4,7 +4,7 @@ use Rattle.std.proofs.Math.Path.{sym}
 use Rattle.std.proofs.Common.{ap, ◌∙◌, arith, ne_eqb}
 use Rattle.binary64.specs.Constants.{plus_zero}
 use Rattle.stretch.specs.Stretch.{part}
-use Rattle.stretch.specs.StretchLaws.{part-of-take, part-splice-before}
+use Rattle.stretch.specs.StretchLaws.{part_of_take, part_splice-before}
 use Rattle.pde.specs.declared.Start.{Start}
 use Rattle.model.specs.SolvedPlace.{solved_at}
 use Rattle.work.specs.declared.Given.{Given}
@@ -44,22 +44,22 @@ module _ (plan : Plan) (words : List ℕ) (m : List Float) where
   t = plan.t
 
   -- what lies before the gradients
-  same-part : (at k : ℕ) → at + k ≤ at_gradients n t → part (front_of plan (gradients_erased plan m)) at k ≡ part (front_of plan m) at k
-  same-part at k h =
-      part-of-take (gradients_erased plan m) (at_norms n t) at k (omega arith)
-      ∙ part-splice-before m (at_gradients n t) (replicate (2 * t) plus_zero) at k h
-      ∙ sym (part-of-take m (at_norms n t) at k (omega arith))
+  same_part : (at k : ℕ) → at + k ≤ at_gradients n t → part (front_of plan (gradients_erased plan m)) at k ≡ part (front_of plan m) at k
+  same_part at k h =
+      part_of_take (gradients_erased plan m) (at_norms n t) at k (omega arith)
+      ∙ part_splice-before m (at_gradients n t) (replicate (2 * t) plus_zero) at k h
+      ∙ sym (part_of_take m (at_norms n t) at k (omega arith))
 
-  same-found : (g : Given) → found_by plan words (front_of plan (gradients_erased plan m)) g ≡ found_by plan words (front_of plan m) g
-  same-found (Given.At p) = rw (same-part 0 (2 * n) (omega arith))
-  same-found Given.Nothing = rw (same-part 0 (2 * n) (omega arith), same-part (at_x n t) n (omega arith))
+  same_found : (g : Given) → found_by plan words (front_of plan (gradients_erased plan m)) g ≡ found_by plan words (front_of plan m) g
+  same_found (Given.At p) = rw (same_part 0 (2 * n) (omega arith))
+  same_found Given.Nothing = rw (same_part 0 (2 * n) (omega arith), same_part (at_x n t) n (omega arith))
 
   same_start : (s : Stand) (g : Given)
       → ((start_by plan words (front_of plan (gradients_erased plan m)) s g).stand ≡ (start_by plan words (front_of plan m) s g).stand) × ((start_by plan words (front_of plan (gradients_erased plan m)) s g).gives ≡ (start_by plan words (front_of plan m) s g).gives)
   same_start s g =
       let a = start_is plan words (front_of plan (gradients_erased plan m)) s g in
       let b = start_is plan words (front_of plan m) s g in
-      let found = same-found g in
+      let found = same_found g in
       let f = graded plan words (front_of plan (gradients_erased plan m)) s in
       let same = set_out-same s f (graded plan words (front_of plan m) s) (lost_by g) (found_by plan words (front_of plan m) g) in (
         ap (λ (d : Stepped). d.stand) a ∙ ap (λ (x : Start). (set_out_step s f (lost_by g) x).stand) found ∙ same.0 ∙ sym (ap (λ (d : Stepped). d.stand) b),
@@ -70,14 +70,14 @@ module _ (plan : Plan) (words : List ℕ) (w : Work) (solved : w.stand.end ≡ 0
   abbrev from : Stand
   from = pathless (solved_at w.stand.norms w.stand.end) w.stand.rs w.stand.norms w.stand.end
 
-  next-step : step_on plan words (front_of plan (gradients_erased plan w.floats)) from ≡ start_by plan words (front_of plan (gradients_erased plan w.floats)) from plan.start
+  next_step : step_on plan words (front_of plan (gradients_erased plan w.floats)) from ≡ start_by plan words (front_of plan (gradients_erased plan w.floats)) from plan.start
   unfolding step_on next_of begin_step
-  next-step = rw (ne_eqb w.stand.end 0 solved)
+  next_step = rw (ne_eqb w.stand.end 0 solved)
 
-  pub started-stand : (to_started plan words w).stand ≡ (once plan words (to_solved plan w)).stand
+  pub started_stand : (to_started plan words w).stand ≡ (once plan words (to_solved plan w)).stand
   unfolding to_started to_solved once
-  started-stand = sym (ap (λ (d : Stepped). d.stand) next-step ∙ (same_start plan words w.floats from plan.start).0)
+  started_stand = sym (ap (λ (d : Stepped). d.stand) next_step ∙ (same_start plan words w.floats from plan.start).0)
 
-  pub started-path : (to_started plan words w).path ≡ (once plan words (to_solved plan w)).path
+  pub started_path : (to_started plan words w).path ≡ (once plan words (to_solved plan w)).path
   unfolding to_started to_solved once
-  started-path = sym (ap (λ (g : Gives). path_given plan from g (path_erased w.stand w.path)) (ap (λ (d : Stepped). d.gives) next-step ∙ (same_start plan words w.floats from plan.start).1))
+  started_path = sym (ap (λ (g : Gives). path_given plan from g (path_erased w.stand w.path)) (ap (λ (d : Stepped). d.gives) next_step ∙ (same_start plan words w.floats from plan.start).1))

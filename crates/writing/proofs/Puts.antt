@@ -65,9 +65,9 @@ module _ {A : Type 0} (f : A → ℕ) (w : ℕ) (m₀ : List ℕ) (at : ℕ) (xs
   down : (i : ℕ) (m : List ℕ) → i ≤ length xs → m ≡ placed m₀ at (all_bytes w (map f (take i xs))) → Down f w m₀ at xs i m
   down i m h e = record { within = h; long = ap length e ∙ length-placed m₀ at _; is = e }
 
-  pub down-none : Down f w m₀ at xs 0 m₀
+  pub down_none : Down f w m₀ at xs 0 m₀
   unfolding all_bytes
-  down-none = down 0 m₀ zero-le (sym (placed_none m₀ at))
+  down_none = down 0 m₀ zero-le (sym (placed_none m₀ at))
 
   more : (d : A) (i : ℕ) → i < length xs → all_bytes w (map f (take (i + 1) xs)) ≡ all_bytes w (map f (take i xs)) ++ bytes w (f (get_or xs i d))
   unfolding all_bytes
@@ -78,9 +78,9 @@ module _ {A : Type 0} (f : A → ℕ) (w : ℕ) (m₀ : List ℕ) (at : ℕ) (xs
       ∙ all_bytes-append w (map f (take i xs)) (f (get_or xs i d) ∷ [])
       ∙ ap (λ (l : List ℕ). all_bytes w (map f (take i xs)) ++ l) (append-nil (bytes w (f (get_or xs i d))))
 
-  pub down-more : (d : A) (i next : ℕ) (m m' : List ℕ) → Down f w m₀ at xs i m → i < length xs → next ≡ at + w * i
+  pub down_more : (d : A) (i next : ℕ) (m m' : List ℕ) → Down f w m₀ at xs i m → i < length xs → next ≡ at + w * i
       → m' ≡ placed m next (bytes w (f (get_or xs i d))) → Down f w m₀ at xs (i + 1) m'
-  down-more d i next m m' p h e q =
+  down_more d i next m m' p h e q =
       let k : length (take i xs) ≡ i = length-take-le i xs p.within in
       let l : length (all_bytes w (map f (take i xs))) ≡ w * i = length-all_bytes w (map f (take i xs)) ∙ ap (λ (j : ℕ). w * j) (length-map (take i xs) f ∙ k) in
       down (i + 1) m' (omega arith)

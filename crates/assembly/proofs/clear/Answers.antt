@@ -10,4 +10,4 @@ fill_words-requires c = let l : length (set c.args.words.now c.args.at.starts 0)
     omega arith
 
 pub returns : goal.returns
-returns c = record { floats-are = rw (c.fill-2.ensures, c.fill.ensures); words_are = rw (c.fill_words-2.ensures, c.fill_words.ensures) }
+returns c = record { floats_are = rw (c.fill-2.ensures, c.fill.ensures); words_are = rw (c.fill_words-2.ensures, c.fill_words.ensures) }

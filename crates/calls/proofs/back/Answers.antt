@@ -2,13 +2,13 @@
 use Prim.Native.Nat.{◌-◌}
 use native.Mathlib.Omega.{arith}
 use Rattle.image.specs.Calls.{buffers}
-use Rattle.image.specs.Exits.{cleared, admitted, does-early, back_done}
+use Rattle.image.specs.Exits.{cleared, admitted, does_early, back_done}
 use borrow.Author.Rules.{rules}
 use Rattle.calls.proofs.back.Goals as goal
 
 pub returns-then-early-ne0 : goal.returns-then-early-ne0
 returns-then-early-ne0 c =
-    does-early _ _ _ _ _ c.say.ensures c.held_fault-early.ensures c.if-early-ne0.true
+    does_early _ _ _ _ _ c.say.ensures c.held_fault-early.ensures c.if-early-ne0.true
 
 pub seek-stand-requires : goal.seek-stand-requires
 seek-stand-requires c =

@@ -6,7 +6,7 @@ use native.Mathlib.Omega.{arith}
 use Rattle.stretch.specs.Stretch.{part}
 use Rattle.stretch.specs.Vec.{dot}
 use Rattle.conjugate.specs.Beside.{product_of}
-use Rattle.conjugate.proofs.LawsBeside.{sum_none, sum-turn, sum_done}
+use Rattle.conjugate.proofs.LawsBeside.{sum_none, sum_turn, sum_done}
 use Rattle.conjugate.proofs.curvature.Given as goal
 
 abbrev pub invariant-loop-i : goal.invariant-loop-i

@@ -5,8 +5,8 @@ use native.Mathlib.Omega.{arith}
 use borrow.Author.Rules.{rules}
 use lib.ListN.{length, length-set}
 use Rattle.conjugate.specs.Placed.{Resides}
-use Rattle.conjugate.proofs.LawsLoops.{resides_none, resides-turn}
-use Rattle.conjugate.proofs.LawsLoops.{resides_none, resides-turn}
+use Rattle.conjugate.proofs.LawsLoops.{resides_none, resides_turn}
+use Rattle.conjugate.proofs.LawsLoops.{resides_none, resides_turn}
 use Rattle.conjugate.proofs.residual.Given as goal
 
 abbrev pub invariant-loop-i : goal.invariant-loop-i

@@ -5,8 +5,8 @@ use native.Mathlib.Omega.{arith}
 use borrow.Author.Rules.{rules}
 use lib.ListN.{length, length-set}
 use Rattle.conjugate.specs.Placed.{Stepped}
-use Rattle.conjugate.proofs.LawsLoops.{step_none, step-turn}
-use Rattle.conjugate.proofs.LawsLoops.{step_none, step-turn}
+use Rattle.conjugate.proofs.LawsLoops.{step_none, step_turn}
+use Rattle.conjugate.proofs.LawsLoops.{step_none, step_turn}
 use Rattle.conjugate.proofs.step.Goals as goal
 
 pub loop-i-init : goal.loop-i-init
@@ -20,7 +20,7 @@ bounds-floats-d-in-loop-i c = simp length-set (omega arith)
 
 pub loop-i-preserved : goal.loop-i-preserved
 loop-i-preserved c =
-    (omega arith, simp length-set (omega arith), step-turn _ _ _ _ _ _ _ c.requires c.loop-i-test.true c.loop-i.invariant.2 _ _ refl refl)
+    (omega arith, simp length-set (omega arith), step_turn _ _ _ _ _ _ _ c.requires c.loop-i-test.true c.loop-i.invariant.2 _ _ refl refl)
 
 pub returns : goal.returns
 returns c = let done : c.loop-i.i ≡ c.args.n = omega arith in rw done at c.loop-i.invariant.2

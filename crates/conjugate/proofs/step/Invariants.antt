@@ -5,8 +5,8 @@ use native.Mathlib.Omega.{arith}
 use borrow.Author.Rules.{rules}
 use lib.ListN.{length, length-set}
 use Rattle.conjugate.specs.Placed.{Stepped}
-use Rattle.conjugate.proofs.LawsLoops.{step_none, step-turn}
-use Rattle.conjugate.proofs.LawsLoops.{step_none, step-turn}
+use Rattle.conjugate.proofs.LawsLoops.{step_none, step_turn}
+use Rattle.conjugate.proofs.LawsLoops.{step_none, step_turn}
 use Rattle.conjugate.proofs.step.Given as goal
 
 abbrev pub invariant-loop-i : goal.invariant-loop-i

@@ -5,7 +5,7 @@ use Prim.Native.Nat.{◌-◌, ◌≤◌}
 use native.Mathlib.Omega.{arith}
 use lib.ListN.{length, length-set}
 use Rattle.conjugate.specs.Beside.{product_of, SteppedBeside}
-use Rattle.conjugate.proofs.LawsBeside.{step_none, step-beside, step-turn}
+use Rattle.conjugate.proofs.LawsBeside.{step_none, step_beside_lem, step_turn}
 use Rattle.conjugate.proofs.step_beside.Given as goal
 
 abbrev pub invariant-loop-i : goal.invariant-loop-i

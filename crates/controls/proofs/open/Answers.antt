@@ -2,17 +2,17 @@
 use mathlib.Core.Path.{◌∙◌, sym}
 use borrow.Author.Tests.{not-true, not-false}
 use Rattle.records.specs.Numbers.{fits}
-use Rattle.controls.proofs.Laws.{open-unfit, open-refused, open_made}
+use Rattle.controls.proofs.Laws.{open_unfit, open_refused, open_made}
 use borrow.Author.Rules.{rules}
 use Rattle.controls.proofs.open.Goals as goal
 
 pub returns-then-not-fits : goal.returns-then-not-fits
 unfolding fits
-returns-then-not-fits c = open-unfit _ _ _ _ (sym c.before.before.fits2.ensures ∙ not-true _ c.if-not-fits.true) _ c.refusal_or_8.ensures
+returns-then-not-fits c = open_unfit _ _ _ _ (sym c.before.before.fits2.ensures ∙ not-true _ c.if-not-fits.true) _ c.refusal_or_8.ensures
 
 pub returns-then-opened-ne0 : goal.returns-then-opened-ne0
 unfolding fits
-returns-then-opened-ne0 c = open-refused _ _ _ _ (sym c.before.before.before.before.before.before.before.before.before.before.before.before.before.fits2.ensures ∙ not-false _ c.if-not-fits.false) c.before.before.before.before.before.before.before.before.«open».ensures c.if-opened-ne0.true
+returns-then-opened-ne0 c = open_refused _ _ _ _ (sym c.before.before.before.before.before.before.before.before.before.before.before.before.before.fits2.ensures ∙ not-false _ c.if-not-fits.false) c.before.before.before.before.before.before.before.before.«open».ensures c.if-opened-ne0.true
 
 pub returns : goal.returns
 unfolding fits

@@ -2,12 +2,12 @@
 use native.Mathlib.Omega.{arith}
 use lib.ListN.{length-set}
 use mathlib.Core.Path.{◌∙◌, sym}
-use Rattle.controls.proofs.Laws.{asked, needed-refused, needed-made}
+use Rattle.controls.proofs.Laws.{asked, needed_refused, needed_made}
 use borrow.Author.Rules.{rules}
 use Rattle.controls.proofs.space_needed.Goals as goal
 
 pub returns-then-refused-ne0 : goal.returns-then-refused-ne0
-returns-then-refused-ne0 c = needed-refused _ _ _ _ _ _ c.needed_fault-refused.ensures c.if-refused-ne0.true
+returns-then-refused-ne0 c = needed_refused _ _ _ _ _ _ c.needed_fault-refused.ensures c.if-refused-ne0.true
 
 pub overflow_mul-out : goal.overflow_mul-out
 overflow_mul-out c = let h = asked _ _ _ _ _ (sym c.needed_fault-refused.ensures ∙ c.if-refused-ne0.false) in omega (arith, h.vertices, h.triangles, h.passes, h.points, h.long)
@@ -51,4 +51,4 @@ bounds-out-2 c =
     simp length-set (let h = asked _ _ _ _ _ (sym c.needed_fault-refused.ensures ∙ c.if-refused-ne0.false) in omega (arith, h.vertices, h.triangles, h.passes, h.points, h.long))
 
 pub returns : goal.returns
-returns c = needed-made _ _ _ _ _ c.needed_fault-refused.ensures c.if-refused-ne0.false
+returns c = needed_made _ _ _ _ _ c.needed_fault-refused.ensures c.if-refused-ne0.false

@@ -14,14 +14,14 @@ use Rattle.distance.proofs.pieces.Goals.{Start, Then-spacing}
 held_x : (c : Start) → T (fits binary64 c.args.x)
 held_x c = subst T (sym c.well_formed.0.1) tt
 
-held-spacing : (c : Start) → T (fits binary64 c.args.spacing)
-held-spacing c = subst T (sym c.well_formed.1.0.1) tt
+held_spacing : (c : Start) → T (fits binary64 c.args.spacing)
+held_spacing c = subst T (sym c.well_formed.1.0.1) tt
 
 spaced : (c : Then-spacing) → Spacing c.args.spacing
 spaced c = spacing _ _ _ c.if-spacing.true (omega arith) (omega arith) (omega arith)
 
 pub returns-then-x-spacing : goal.returns-then-x-spacing
-returns-then-x-spacing c = let s = c.before.before in short-one _ _ _ (held_x s) (held-spacing s) (spaced c.before) c.if-x-spacing.true (omega arith) (omega arith)
+returns-then-x-spacing c = let s = c.before.before in short-one _ _ _ (held_x s) (held_spacing s) (spaced c.before) c.if-x-spacing.true (omega arith) (omega arith)
 
 pub returns-then-lies : goal.returns-then-lies
 returns-then-lies c =

@@ -5,7 +5,7 @@ use Prim.Native.Nat.{◌+◌, ◌-◌, ◌≤◌}
 use native.Mathlib.Omega.{arith}
 use lib.ListN.{length}
 use Rattle.dry.specs.Crossing.{Going, Crossed}
-use Rattle.dry.proofs.LawsCrossing.{going_next, crossed-none, crossed-more, crossed-ended, crossed-done}
+use Rattle.dry.proofs.LawsCrossing.{going_next, crossed_none, crossed-more, crossed-ended, crossed_done}
 use Rattle.dry.proofs.cross.Given as goal
 
 abbrev pub invariant-loop-i : goal.invariant-loop-i

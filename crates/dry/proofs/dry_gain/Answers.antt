@@ -1,17 +1,17 @@
 -- `dry_gain` meets its contract: a finished path gains nothing, solving and the start pass are made on copies, and crossings read the lent floats as they stand. Assumes nothing.
-use Rattle.dry.proofs.LawsPhases.{gained-none, gained, gained-forth, counts-anew, gained-anew, gained-anew-forth, ground-lent, going-lent, crossed-all}
+use Rattle.dry.proofs.LawsPhases.{gained_none, gained, gained_forth, counts_anew, gained_anew, gained_anew_forth, ground_lent, going_lent, crossed-all}
 use borrow.Author.Rules.{rules}
 use Rattle.dry.proofs.dry_gain.Goals as goal
 
 pub returns-then-walk-ne0 : goal.returns-then-walk-ne0
 returns-then-walk-ne0 c =
     let a = c.args in
-    gained-none a.plan a.words.now a.floats.now a.stand a.k c.if-walk-ne0.true
+    gained_none a.plan a.words.now a.floats.now a.stand a.k c.if-walk-ne0.true
 
 pub overflow_sub-result : goal.overflow_sub-result
 overflow_sub-result c =
     let a = c.args in
-    gained-forth a.plan a.words.now a.floats.now a.stand a.k _ c.go-last.ensures
+    gained_forth a.plan a.words.now a.floats.now a.stand a.k _ c.go-last.ensures
 
 pub returns-then-stand-eq0 : goal.returns-then-stand-eq0
 returns-then-stand-eq0 c =
@@ -22,29 +22,29 @@ pub go-last-requires-then-walk-eq0 : goal.go-last-requires-then-walk-eq0
 go-last-requires-then-walk-eq0 c =
     let a = c.args in
     let e = c.if-walk-ne0.false in
-    rw c.uncrossed.ensures (counts-anew a.plan a.words.now a.floats.now a.stand a.k e c.if-stand-eq0.false c.if-walk-eq0.true c.requires, e)
+    rw c.uncrossed.ensures (counts_anew a.plan a.words.now a.floats.now a.stand a.k e c.if-stand-eq0.false c.if-walk-eq0.true c.requires, e)
 
 pub overflow_sub-result-then-walk-eq0 : goal.overflow_sub-result-then-walk-eq0
 overflow_sub-result-then-walk-eq0 c =
     let a = c.args in
-    gained-anew-forth a.plan a.words.now a.floats.now a.stand a.k c.if-walk-ne0.false c.if-stand-eq0.false c.if-walk-eq0.true _ _ c.uncrossed.ensures c.go-last-then-walk-eq0.ensures
+    gained_anew_forth a.plan a.words.now a.floats.now a.stand a.k c.if-walk-ne0.false c.if-stand-eq0.false c.if-walk-eq0.true _ _ c.uncrossed.ensures c.go-last-then-walk-eq0.ensures
 
 pub returns-then-walk-eq0 : goal.returns-then-walk-eq0
 returns-then-walk-eq0 c =
     let a = c.args in
-    gained-anew a.plan a.words.now a.floats.now a.stand a.k c.if-walk-ne0.false c.if-stand-eq0.false c.if-walk-eq0.true _ _ c.uncrossed.ensures c.go-last-then-walk-eq0.ensures
+    gained_anew a.plan a.words.now a.floats.now a.stand a.k c.if-walk-ne0.false c.if-stand-eq0.false c.if-walk-eq0.true _ _ c.uncrossed.ensures c.go-last-then-walk-eq0.ensures
 
 pub cross-last-requires : goal.cross-last-requires
 cross-last-requires c =
     let a = c.args in
     let m = c.mesh_at-m.ensures in
     let u = c.at_x-u.ensures in
-    (ground-lent a.plan a.words.now a.floats.now a.stand a.k _ _ m u c.requires, going-lent a.plan a.words.now a.floats.now a.stand a.k _ _ m u c.requires c.if-stand-eq0.false c.if-walk-eq0.false, c.requires.near)
+    (ground_lent a.plan a.words.now a.floats.now a.stand a.k _ _ m u c.requires, going_lent a.plan a.words.now a.floats.now a.stand a.k _ _ m u c.requires c.if-stand-eq0.false c.if-walk-eq0.false, c.requires.near)
 
 pub overflow_sub-result-2 : goal.overflow_sub-result-2
 overflow_sub-result-2 c =
     let a = c.args in
-    gained-forth a.plan a.words.now a.floats.now a.stand a.k _ (crossed-all a.plan a.words.now a.floats.now a.stand a.k _ _ c.mesh_at-m.ensures c.at_x-u.ensures c.requires _ c.cross-last.ensures)
+    gained_forth a.plan a.words.now a.floats.now a.stand a.k _ (crossed-all a.plan a.words.now a.floats.now a.stand a.k _ _ c.mesh_at-m.ensures c.at_x-u.ensures c.requires _ c.cross-last.ensures)
 
 pub returns : goal.returns
 returns c =

@@ -1,5 +1,5 @@
 -- `exports_numbers::cintrok_weights` meets its contract: the weights are what `get_barycentric_weights` ensures, and the stores are inside `out`, whose length the first test gives. Assumes nothing.
-use Rattle.exports_numbers.proofs.Laws.{too_short, put-there}
+use Rattle.exports_numbers.proofs.Laws.{too_short, put_there}
 use native.Mathlib.Omega.{arith}
 use borrow.Author.Rules.{rules}
 use lib.ListN.{length-set}
@@ -18,4 +18,4 @@ pub shape_of-out : goal.shape_of-out
 shape_of-out c = simp length-set
 
 pub returns : goal.returns
-returns c = rw (← c.get_barycentric_weights-w.ensures) (put-there c.if-out-lt3.false)
+returns c = rw (← c.get_barycentric_weights-w.ensures) (put_there c.if-out-lt3.false)

@@ -5,11 +5,11 @@ use Rattle.image.specs.Calls.{buffers}
 use Rattle.image.specs.CallLaws.{Counted, Enough, asked}
 use Rattle.image.specs.Shown.{lengths_of}
 use Rattle.image.specs.Accepted.{counted, enough}
-use Rattle.gate.proofs.Laws.{held-counts, held-space, held-sound}
+use Rattle.gate.proofs.Laws.{held_counts, held-space, held_sound}
 use Rattle.gate.proofs.held_fault.Goals as goal
 
 pub returns-then-counts-ne0 : goal.returns-then-counts-ne0
-returns-then-counts-ne0 c = held-counts _ _ _ c.counts_fault-counts.ensures c.if-counts-ne0.true
+returns-then-counts-ne0 c = held_counts _ _ _ c.counts_fault-counts.ensures c.if-counts-ne0.true
 
 pub space_fault-short-requires : goal.space_fault-short-requires
 space_fault-short-requires c =
@@ -42,10 +42,10 @@ words_sound-requires c =
 
 pub returns-then-sound : goal.returns-then-sound
 returns-then-sound c =
-    held-sound _ _ _ _ _ _ _ _ c.counts_fault-counts.ensures c.if-counts-ne0.false c.space_fault-short.ensures c.if-short-ne0.false
+    held_sound _ _ _ _ _ _ _ _ c.counts_fault-counts.ensures c.if-counts-ne0.false c.space_fault-short.ensures c.if-short-ne0.false
     c.stand_sound.ensures c.mark_sound.ensures c.words_sound.ensures c.if-sound.true
 
 pub returns-else-sound : goal.returns-else-sound
 returns-else-sound c =
-    held-sound _ _ _ _ _ _ _ _ c.counts_fault-counts.ensures c.if-counts-ne0.false c.space_fault-short.ensures c.if-short-ne0.false
+    held_sound _ _ _ _ _ _ _ _ c.counts_fault-counts.ensures c.if-counts-ne0.false c.space_fault-short.ensures c.if-short-ne0.false
     c.stand_sound.ensures c.mark_sound.ensures c.words_sound.ensures c.if-sound.false

@@ -1,16 +1,16 @@
 -- `step` meets its contract: its tests of the ends choose the kind of pass that the definition chooses. Assumes nothing.
-use Rattle.kinds.proofs.LawsKinds.{steps-over, steps-solve, steps-begin, steps-cross}
+use Rattle.kinds.proofs.LawsKinds.{steps_over, steps_solve, steps_begin, steps_cross}
 use borrow.Author.Rules.{rules}
 use Rattle.kinds.proofs.step.Goals as goal
 
 pub returns-then-walk-ne0 : goal.returns-then-walk-ne0
-returns-then-walk-ne0 c = steps-over _ _ _ _ c.if-walk-ne0.true
+returns-then-walk-ne0 c = steps_over _ _ _ _ c.if-walk-ne0.true
 
 pub returns-then-stand-eq0 : goal.returns-then-stand-eq0
-returns-then-stand-eq0 c = steps-solve _ _ _ _ _ _ c.if-walk-ne0.false c.if-stand-eq0.true c.solve_step.ensures
+returns-then-stand-eq0 c = steps_solve _ _ _ _ _ _ c.if-walk-ne0.false c.if-stand-eq0.true c.solve_step.ensures
 
 pub returns-then-walk-eq0 : goal.returns-then-walk-eq0
-returns-then-walk-eq0 c = steps-begin _ _ _ _ _ _ c.if-walk-ne0.false c.if-stand-eq0.false c.if-walk-eq0.true c.begin_step.ensures
+returns-then-walk-eq0 c = steps_begin _ _ _ _ _ _ c.if-walk-ne0.false c.if-stand-eq0.false c.if-walk-eq0.true c.begin_step.ensures
 
 pub returns : goal.returns
-returns c = steps-cross _ _ _ _ _ _ c.if-walk-ne0.false c.if-stand-eq0.false c.if-walk-eq0.false c.cross_step.ensures
+returns c = steps_cross _ _ _ _ _ _ c.if-walk-ne0.false c.if-stand-eq0.false c.if-walk-eq0.false c.cross_step.ensures

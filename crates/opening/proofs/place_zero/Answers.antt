@@ -3,20 +3,20 @@ use borrow.Author.Rules.{rules}
 use mathlib.Core.Path.{◌∙◌}
 use native.Mathlib.Omega.{arith}
 use Rattle.image.specs.Calls.{buffers}
-use Rattle.opening.proofs.LawsPlace.{fits_read, path-fits, begins-read, stands}
+use Rattle.opening.proofs.LawsPlace.{fits_read, path_fits, begins_read, stands}
 use Rattle.opening.proofs.place_zero.Goals as goal
 
 pub lay_out-requires : goal.lay_out-requires
 lay_out-requires c = (c.requires.read, fits_read _ _ _ _ c.requires)
 
 pub begin-rs-requires : goal.begin-rs-requires
-begin-rs-requires c = begins-read _ _ _ _ c.requires _ _ c.lay_out.ensures (search rules)
+begin-rs-requires c = begins_read _ _ _ _ c.requires _ _ c.lay_out.ensures (search rules)
 
 pub overflow_mul-plan : goal.overflow_mul-plan
-overflow_mul-plan c = omega (arith, (path-fits _ _ _ _ c.requires).0)
+overflow_mul-plan c = omega (arith, (path_fits _ _ _ _ c.requires).0)
 
 pub fill-requires : goal.fill-requires
-fill-requires c = omega (arith, (path-fits _ _ _ _ c.requires).1)
+fill-requires c = omega (arith, (path_fits _ _ _ _ c.requires).1)
 
 pub shape_of-floats : goal.shape_of-floats
 shape_of-floats c = c.floats-2-1.given ∙ c.floats-1.given

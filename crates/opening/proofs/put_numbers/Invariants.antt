@@ -2,7 +2,7 @@
 use Rattle.sheet.specs.Items.{whole_in}
 use Rattle.stretch.specs.Stretch.{splice}
 use Rattle.image.specs.Opening.{numbers_read}
-use Rattle.opening.proofs.LawsOpen.{put-none, put_one}
+use Rattle.opening.proofs.LawsOpen.{put_none, put_one}
 use borrow.Author.Rules.{rules}
 use native.Mathlib.Omega.{arith}
 use mathlib.Core.Path.{◌≡◌, refl}

@@ -2,7 +2,7 @@
 use lib.ListN.{get_or}
 use Rattle.stretch.specs.Stretch.{splice}
 use Rattle.image.specs.Opening.{tags_read}
-use Rattle.opening.proofs.LawsOpen.{put-none, put_one}
+use Rattle.opening.proofs.LawsOpen.{put_none, put_one}
 use borrow.Author.Rules.{rules}
 use native.Mathlib.Omega.{arith}
 use mathlib.Core.Path.{◌≡◌, refl}
@@ -11,7 +11,7 @@ use lib.ListN.{length}
 use Rattle.opening.proofs.put_tags.Goals as goal
 
 pub loop-i-init : goal.loop-i-init
-loop-i-init c = (omega arith, refl, put-none _ _ _)
+loop-i-init c = (omega arith, refl, put_none _ _ _)
 
 pub loop-i-preserved : goal.loop-i-preserved
 loop-i-preserved c =

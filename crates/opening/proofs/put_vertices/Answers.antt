@@ -3,7 +3,7 @@ use Rattle.sheet.specs.Items.{vertex_in}
 use Rattle.plane.specs.declared.Point.{Point}
 use Rattle.stretch.specs.Stretch.{splice}
 use Rattle.image.specs.Opening.{vertices_read}
-use Rattle.opening.proofs.LawsOpen.{put-none, put_two}
+use Rattle.opening.proofs.LawsOpen.{put_none, put_two}
 use borrow.Author.Rules.{rules}
 use native.Mathlib.Omega.{arith}
 use mathlib.Core.Path.{◌≡◌, refl, ap}
@@ -12,7 +12,7 @@ use lib.ListN.{length, length-set}
 use Rattle.opening.proofs.put_vertices.Goals as goal
 
 pub loop-i-init : goal.loop-i-init
-loop-i-init c = (omega arith, refl, put-none _ _ _)
+loop-i-init c = (omega arith, refl, put_none _ _ _)
 
 pub bounds-floats-l : goal.bounds-floats-l
 bounds-floats-l c = simp length-set (omega arith)

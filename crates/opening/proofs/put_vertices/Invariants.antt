@@ -3,7 +3,7 @@ use Rattle.sheet.specs.Items.{vertex_in}
 use Rattle.plane.specs.declared.Point.{Point}
 use Rattle.stretch.specs.Stretch.{splice}
 use Rattle.image.specs.Opening.{vertices_read}
-use Rattle.opening.proofs.LawsOpen.{put-none, put_two}
+use Rattle.opening.proofs.LawsOpen.{put_none, put_two}
 use borrow.Author.Rules.{rules}
 use native.Mathlib.Omega.{arith}
 use mathlib.Core.Path.{◌≡◌, refl, ap}

@@ -12,12 +12,12 @@ slice_bounds-crossing_of-end c = sym (length-take-le _ _ (search rules))
 pub crossing_of-c-requires : goal.crossing_of-c-requires
 crossing_of-c-requires c =
     let q = c.requires in
-    (record { ready = q.0; long = length-take-le _ _ (search rules) ∙ c.at_norms-f.ensures }, q.1.triangle-in (omega (arith, q.4.some)))
+    (record { ready = q.0; long = length-take-le _ _ (search rules) ∙ c.at_norms-f.ensures }, q.1.triangle_in (omega (arith, q.4.some)))
 
 pub crossed-requires : goal.crossed-requires
 crossed-requires c =
     let q = c.requires in
-    (omega (arith, q.0.t-most), q.2, q.1.crossings_left q.4.unended (omega (arith, q.4.some)), q.1.points-most)
+    (omega (arith, q.0.t_most), q.2, q.1.crossings_left q.4.unended (omega (arith, q.4.some)), q.1.points_most)
 
 pub returns : goal.returns
 returns c = cross_comes _ _ _ _ _ _ _ _ _ c.at_norms-f.ensures c.requires.4 c.crossing_of-c.ensures c.put_added.ensures c.crossed.ensures

@@ -6,7 +6,7 @@ use lib.ListN.{length}
 use borrow.Author.Rules.{rules}
 use Rattle.work.specs.Memory.{once, goes, work}
 use Rattle.work.specs.Ready.{Standing, Crosses, Comes}
-use Rattle.work.proofs.Laws.{goes_none, goes-more, goes-ended, goes-done, came-standing, came-place}
+use Rattle.work.proofs.Laws.{goes_none, goes-more, goes-ended, goes_done, came_standing, came_place}
 use Rattle.kinds.proofs.LawsKinds.{crossed_walks}
 use Rattle.pass.proofs.cross_on.Goals as goal
 
@@ -26,9 +26,9 @@ loop-i-preserved c =
     let turn = c.loop-i in
     let from : Crosses turn.s = record { unended = c.if-walk-ne0.false; solved = turn.invariant.5; some = turn.invariant.6 } in
     let e = c.cross-crossed.ensures in
-    let h = came-place _ _ _ _ _ _ _ _ e in
+    let h = came_place _ _ _ _ _ _ _ _ e in
     let w = crossed_walks _ _ _ _ _ _ _ _ from e in
-    (search rules, search rules, came-standing _ _ _ _ _ _ _ _ e c.requires.0 turn.invariant.2, omega arith, goes-more _ _ _ _ _ _ _ _ _ _ turn.invariant.4 e, w.0, w.1)
+    (search rules, search rules, came_standing _ _ _ _ _ _ _ _ e c.requires.0 turn.invariant.2, omega arith, goes-more _ _ _ _ _ _ _ _ _ _ turn.invariant.4 e, w.0, w.1)
 
 pub returns : goal.returns
-returns c = goes-done _ _ _ _ _ _ _ _ c.loop-i.invariant.4 (search rules)
+returns c = goes_done _ _ _ _ _ _ _ _ c.loop-i.invariant.4 (search rules)

@@ -6,7 +6,7 @@ use lib.ListN.{length}
 use borrow.Author.Rules.{rules}
 use Rattle.work.specs.Memory.{once, goes, work}
 use Rattle.work.specs.Ready.{Standing, Crosses, Comes}
-use Rattle.work.proofs.Laws.{goes_none, goes-more, goes-ended, goes-done, came-standing, came-place}
+use Rattle.work.proofs.Laws.{goes_none, goes-more, goes-ended, goes_done, came_standing, came_place}
 use Rattle.kinds.proofs.LawsKinds.{crossed_walks}
 use Rattle.pass.proofs.cross_on.Given as goal
 

@@ -6,12 +6,12 @@ use lib.ListN.{length}
 use borrow.Author.Rules.{rules}
 use Rattle.work.specs.Memory.{goes, work}
 use Rattle.work.specs.Ready.{Standing, Comes}
-use Rattle.work.proofs.Laws.{goes_none, goes-more, goes-ended, goes-done, goes_on, came-standing, came-place}
+use Rattle.work.proofs.Laws.{goes_none, goes-more, goes-ended, goes_done, goes_on, came_standing, came_place}
 use Rattle.pass.proofs.go.Goals as goal
 
 -- one more is still within
-add-suc-le : {i k : ℕ} → i < k → i + 1 ≤ k
-add-suc-le h = omega arith
+add_suc_le : {i k : ℕ} → i < k → i + 1 ≤ k
+add_suc_le h = omega arith
 
 pub loop-i-init : goal.loop-i-init
 loop-i-init c = (omega arith, refl, refl, c.requires.1, omega arith, goes_none _ _ _ _ _)
@@ -33,8 +33,8 @@ pub loop-i-preserved : goal.loop-i-preserved
 loop-i-preserved c =
     let turn = c.loop-i in
     let e = c.once-next.ensures in
-    let h = came-place _ _ _ _ _ _ _ _ e in
-    (add-suc-le c.loop-i-test.true, search rules, search rules, came-standing _ _ _ _ _ _ _ _ e c.requires.0 turn.invariant.3, omega arith, goes-more _ _ _ _ _ _ _ _ _ _ turn.invariant.5 e)
+    let h = came_place _ _ _ _ _ _ _ _ e in
+    (add_suc_le c.loop-i-test.true, search rules, search rules, came_standing _ _ _ _ _ _ _ _ e c.requires.0 turn.invariant.3, omega arith, goes-more _ _ _ _ _ _ _ _ _ _ turn.invariant.5 e)
 
 pub returns : goal.returns
-returns c = goes-done _ _ _ _ _ _ _ _ c.loop-i.invariant.5 (search rules)
+returns c = goes_done _ _ _ _ _ _ _ _ c.loop-i.invariant.5 (search rules)

@@ -6,7 +6,7 @@ use lib.ListN.{length}
 use borrow.Author.Rules.{rules}
 use Rattle.work.specs.Memory.{goes, work}
 use Rattle.work.specs.Ready.{Standing, Comes}
-use Rattle.work.proofs.Laws.{goes_none, goes-more, goes-ended, goes-done, goes_on, came-standing, came-place}
+use Rattle.work.proofs.Laws.{goes_none, goes-more, goes-ended, goes_done, goes_on, came_standing, came_place}
 use Rattle.pass.proofs.go.Given as goal
 
 abbrev pub invariant-loop-i : goal.invariant-loop-i

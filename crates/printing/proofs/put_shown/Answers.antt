@@ -1,6 +1,6 @@
 -- `put_shown` meets its contract: no list is longer than its buffer. Assumes nothing.
 use borrow.Author.Rules.{rules}
-use Rattle.printing.proofs.LawsText.{shown_room, shown-put}
+use Rattle.printing.proofs.LawsText.{shown_room, shown_put}
 use Rattle.printing.proofs.put_shown.Goals as goal
 
 pub put_run-requires : goal.put_run-requires
@@ -11,4 +11,4 @@ put_run-requires c =
 pub returns : goal.returns
 returns c =
     let a = c.args in
-    shown-put a.run a.floats.now a.path.now _ _ _ _ c.field-us.ensures c.norms-rs.ensures c.gradients-gs.ensures c.points-ps.ensures c.put_run.ensures
+    shown_put a.run a.floats.now a.path.now _ _ _ _ c.field-us.ensures c.norms-rs.ensures c.gradients-gs.ensures c.points-ps.ensures c.put_run.ensures

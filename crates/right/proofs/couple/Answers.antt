@@ -1,10 +1,10 @@
 -- `couple` meets its contract: by cases on which half of the pair it is, and which of the two vertices is held. Assumes nothing.
 use borrow.Author.Rules.{rules}
-use Rattle.laplace.proofs.LawsRight.{coupled-above, coupled-free, coupled-held, coupled-row, coupled-col}
+use Rattle.laplace.proofs.LawsRight.{coupled_above, coupled-free, coupled-held, coupled-row, coupled-col}
 use Rattle.right.proofs.couple.Goals as goal
 
 pub returns-then-i-j : goal.returns-then-i-j
-returns-then-i-j c = let pre = c.requires in coupled-above _ _ _ _ _ pre.0 _ _ _ pre.1 pre.2 c.if-i-j.true
+returns-then-i-j c = let pre = c.requires in coupled_above _ _ _ _ _ pre.0 _ _ _ pre.1 pre.2 c.if-i-j.true
 
 pub returns-then-tj-eq0 : goal.returns-then-tj-eq0
 returns-then-tj-eq0 c = let pre = c.requires in coupled-free _ _ _ _ _ pre.0 _ _ _ pre.1 pre.2 _ _ c.wide-p.ensures c.wide-q.ensures c.if-i-j.false c.if-ti-eq0.true c.if-tj-eq0.true

@@ -3,7 +3,7 @@ use mathlib.Core.Path.{refl}
 use Prim.Native.Nat.{◌-◌}
 use native.Mathlib.Omega.{arith}
 use borrow.Author.Rules.{rules}
-use Rattle.laplace.proofs.LawsRight.{Coupling, coupling-none, coupling-long, coupling-couples, coupling-again, coupling-done}
+use Rattle.laplace.proofs.LawsRight.{Coupling, coupling_none, coupling_long, coupling_couples, coupling_again, coupling_done}
 use Rattle.right.proofs.couple_all.Given as goal
 
 abbrev pub invariant-loop-i : goal.invariant-loop-i

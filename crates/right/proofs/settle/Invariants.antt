@@ -7,7 +7,7 @@ use lib.ListN.{length}
 use Rattle.stretch.specs.Stretch.{part, splice}
 use Rattle.laplace.specs.Assembly.{settled}
 use Rattle.laplace.specs.Mesh.{held_value}
-use Rattle.laplace.proofs.LawsRight.{settle-none, settle-again, settle-done}
+use Rattle.laplace.proofs.LawsRight.{settle_none, settle_again, settle_done}
 use Rattle.right.proofs.settle.Given as goal
 
 abbrev pub invariant-loop-i : goal.invariant-loop-i

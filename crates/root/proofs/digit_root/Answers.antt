@@ -1,7 +1,7 @@
 -- `root::digit_root` meets its contract. The invariant is `Partial`: the root so far is that of the digits brought down, and the remainder what its square leaves of them.
--- A turn is `partial-one` or `partial-zero`, by the test, and after 54 turns no digit is left. Assumes nothing.
+-- A turn is `partial_one` or `partial_zero`, by the test, and after 54 turns no digit is left. Assumes nothing.
 use Rattle.std.proofs.Common.{◌≡◌, ◌-◌, ◌^◌, ◌<◌, ◌≤◌, refl, ⊎_elim, arith}
-use Rattle.binary64.proofs.WholeRoot.{Partial, partial_none, partial_small, partial-zero, partial-one, partial_done}
+use Rattle.binary64.proofs.WholeRoot.{Partial, partial_none, partial_small, partial_zero, partial_one, partial_done}
 use Rattle.root.proofs.digit_root.Goals as goal
 use Rattle.root.proofs.digit_root.Goals.{In-loop-i, then-trial-remainder, else-trial-remainder}
 
@@ -44,8 +44,8 @@ loop-i-preserved c =
     let l = c.loop-i in (
       omega arith,
       elim c.if-trial-remainder.branch [
-        | then-trial-remainder w ↦ partial-one _ _ _ _ _ l.invariant.1 _ _ _ refl (omega arith) (omega arith)
-        | else-trial-remainder w ↦ partial-zero _ _ _ _ _ l.invariant.1 _ _ _ refl (omega arith) (omega arith) (omega arith)
+        | then-trial-remainder w ↦ partial_one _ _ _ _ _ l.invariant.1 _ _ _ refl (omega arith) (omega arith)
+        | else-trial-remainder w ↦ partial_zero _ _ _ _ _ l.invariant.1 _ _ _ refl (omega arith) (omega arith) (omega arith)
       ],
     )
 

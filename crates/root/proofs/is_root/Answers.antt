@@ -1,7 +1,7 @@
--- `root::is_root` meets its contract: the pattern is that of the exponent's half and of q + 1, which is nearest where the tests say yes (`next-is`). Assumes nothing.
+-- `root::is_root` meets its contract: the pattern is that of the exponent's half and of q + 1, which is nearest where the tests say yes (`next_is`). Assumes nothing.
 use Rattle.std.proofs.Common.{◌≡◌, ℕ, ◌+◌, ◌-◌, ◌*◌, ◌/◌, ◌^◌, ◌<◌, ◌≤◌, true, ◌&&◌, ltb, leb, sym, ◌∙◌, arith, rules, ltb-true, leb-true}
 use mathlib.Core.Bool.{false≢true, and-eq-true_iff}
-use Rattle.binary64.proofs.RootGuess.{next-is}
+use Rattle.binary64.proofs.RootGuess.{next_is}
 use Rattle.binary64.proofs.RootLaws.{pattern_is}
 use Rattle.root.proofs.is_root.Goals as goal
 
@@ -19,4 +19,4 @@ returns c = λ e.
     let rest = c.remainder-rest.result in
     let t = told q rest _ e in
     let p : c.args.pattern ≡ (c.args.g / 2 - 1) * 2 ^ 52 + (q + 1) = omega arith in
-    sym (p ∙ pattern_is c.args.g c.args.m operand.result (q + 1) operand.ensures.0 (next-is operand.result q rest operand.ensures.1 (c.remainder-rest.ensures (omega arith)) (omega arith) (omega arith)))
+    sym (p ∙ pattern_is c.args.g c.args.m operand.result (q + 1) operand.ensures.0 (next_is operand.result q rest operand.ensures.1 (c.remainder-rest.ensures (omega arith)) (omega arith) (omega arith)))

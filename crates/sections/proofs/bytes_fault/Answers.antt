@@ -3,7 +3,7 @@
 use borrow.Author.Rules.{rules}
 use native.Mathlib.Omega.{arith}
 use Prim.Native.Nat.{◌-◌}
-use Rattle.sections.proofs.Scan.{Scanned, scan_none, scan-more, scan-until, scan-all, number-one}
+use Rattle.sections.proofs.Scan.{Scanned, scan_none, scan_more, scan_until, scan_all, number-one}
 use Rattle.format.specs.Refusal.{tag_fault}
 use Rattle.sections.proofs.bytes_fault.Goals as goal
 
@@ -17,7 +17,7 @@ pub returns-then-fault-ne0 : goal.returns-then-fault-ne0
 returns-then-fault-ne0 c =
     let l = c.loop-i in
     let a = c.args in
-    scan-until _ _ _ _ _ _ _ l.invariant (omega arith) (number-one a.part.now l.i) c.tag_fault-fault.ensures c.if-fault-ne0.true
+    scan_until _ _ _ _ _ _ _ l.invariant (omega arith) (number-one a.part.now l.i) c.tag_fault-fault.ensures c.if-fault-ne0.true
 
 pub overflow_add-i : goal.overflow_add-i
 overflow_add-i c = omega arith
@@ -29,7 +29,7 @@ pub loop-i-preserved : goal.loop-i-preserved
 loop-i-preserved c =
     let l = c.loop-i in
     let a = c.args in
-    scan-more _ _ _ _ _ _ _ l.invariant (omega arith) (number-one a.part.now l.i) c.tag_fault-fault.ensures c.if-fault-ne0.false
+    scan_more _ _ _ _ _ _ _ l.invariant (omega arith) (number-one a.part.now l.i) c.tag_fault-fault.ensures c.if-fault-ne0.false
 
 pub returns : goal.returns
-returns c = scan-all _ _ _ _ _ c.loop-i.invariant c.loop-i-test.false
+returns c = scan_all _ _ _ _ _ c.loop-i.invariant c.loop-i-test.false

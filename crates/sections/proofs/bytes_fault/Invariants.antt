@@ -3,7 +3,7 @@
 use borrow.Author.Rules.{rules}
 use native.Mathlib.Omega.{arith}
 use Prim.Native.Nat.{◌-◌}
-use Rattle.sections.proofs.Scan.{Scanned, scan_none, scan-more, scan-until, scan-all, number-one}
+use Rattle.sections.proofs.Scan.{Scanned, scan_none, scan_more, scan_until, scan_all, number-one}
 use Rattle.format.specs.Refusal.{tag_fault}
 use Rattle.sections.proofs.bytes_fault.Given as goal
 

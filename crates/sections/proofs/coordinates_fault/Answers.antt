@@ -4,7 +4,7 @@ use borrow.Author.Rules.{rules}
 use native.Mathlib.Omega.{arith}
 use mathlib.Core.Path.{sym, ◌∙◌}
 use Prim.Native.Nat.{◌*◌, ◌-◌}
-use Rattle.sections.proofs.Scan.{Scanned, scan_none, scan-more, scan-until, scan-all, pattern_fault, patterns}
+use Rattle.sections.proofs.Scan.{Scanned, scan_none, scan_more, scan_until, scan_all, pattern_fault, patterns}
 use Rattle.sections.proofs.coordinates_fault.Goals as goal
 
 pub loop-i-init : goal.loop-i-init
@@ -22,7 +22,7 @@ u64_at-requires c = omega arith
 pub returns-then-fault-ne0 : goal.returns-then-fault-ne0
 returns-then-fault-ne0 c =
     let l = c.loop-i in
-    scan-until _ _ _ _ _ _ _ l.invariant (omega arith) c.u64_at.ensures c.pattern_fault-fault.ensures c.if-fault-ne0.true ∙ sym (patterns _)
+    scan_until _ _ _ _ _ _ _ l.invariant (omega arith) c.u64_at.ensures c.pattern_fault-fault.ensures c.if-fault-ne0.true ∙ sym (patterns _)
 
 pub overflow_add-i : goal.overflow_add-i
 overflow_add-i c = omega arith
@@ -33,7 +33,7 @@ loop-i-smaller c = omega arith
 pub loop-i-preserved : goal.loop-i-preserved
 loop-i-preserved c =
     let l = c.loop-i in
-    scan-more _ _ _ _ _ _ _ l.invariant (omega arith) c.u64_at.ensures c.pattern_fault-fault.ensures c.if-fault-ne0.false
+    scan_more _ _ _ _ _ _ _ l.invariant (omega arith) c.u64_at.ensures c.pattern_fault-fault.ensures c.if-fault-ne0.false
 
 pub returns : goal.returns
-returns c = scan-all _ _ _ _ _ c.loop-i.invariant c.loop-i-test.false ∙ sym (patterns _)
+returns c = scan_all _ _ _ _ _ c.loop-i.invariant c.loop-i-test.false ∙ sym (patterns _)

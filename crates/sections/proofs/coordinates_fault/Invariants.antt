@@ -4,7 +4,7 @@ use borrow.Author.Rules.{rules}
 use native.Mathlib.Omega.{arith}
 use mathlib.Core.Path.{sym, ◌∙◌}
 use Prim.Native.Nat.{◌*◌, ◌-◌}
-use Rattle.sections.proofs.Scan.{Scanned, scan_none, scan-more, scan-until, scan-all, pattern_fault, patterns}
+use Rattle.sections.proofs.Scan.{Scanned, scan_none, scan_more, scan_until, scan_all, pattern_fault, patterns}
 use Rattle.sections.proofs.coordinates_fault.Given as goal
 
 abbrev pub invariant-loop-i : goal.invariant-loop-i

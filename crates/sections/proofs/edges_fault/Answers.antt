@@ -3,7 +3,7 @@
 use borrow.Author.Rules.{rules}
 use native.Mathlib.Omega.{arith}
 use Prim.Native.Nat.{◌-◌}
-use Rattle.sections.proofs.Scan.{Scanned, scan_none, scan-more, scan-until, scan-all}
+use Rattle.sections.proofs.Scan.{Scanned, scan_none, scan_more, scan_until, scan_all}
 use Rattle.format.specs.Refusal.{neighbour_fault}
 use Rattle.sections.proofs.edges_fault.Goals as goal
 
@@ -19,7 +19,7 @@ u32_at-requires c = omega arith
 pub returns-then-fault-ne0 : goal.returns-then-fault-ne0
 returns-then-fault-ne0 c =
     let l = c.loop-i in
-    scan-until _ _ _ _ _ _ _ l.invariant (omega arith) c.u32_at.ensures c.neighbour_fault-fault.ensures c.if-fault-ne0.true
+    scan_until _ _ _ _ _ _ _ l.invariant (omega arith) c.u32_at.ensures c.neighbour_fault-fault.ensures c.if-fault-ne0.true
 
 pub overflow_add-i : goal.overflow_add-i
 overflow_add-i c = omega arith
@@ -30,7 +30,7 @@ loop-i-smaller c = omega arith
 pub loop-i-preserved : goal.loop-i-preserved
 loop-i-preserved c =
     let l = c.loop-i in
-    scan-more _ _ _ _ _ _ _ l.invariant (omega arith) c.u32_at.ensures c.neighbour_fault-fault.ensures c.if-fault-ne0.false
+    scan_more _ _ _ _ _ _ _ l.invariant (omega arith) c.u32_at.ensures c.neighbour_fault-fault.ensures c.if-fault-ne0.false
 
 pub returns : goal.returns
-returns c = scan-all _ _ _ _ _ c.loop-i.invariant c.loop-i-test.false
+returns c = scan_all _ _ _ _ _ c.loop-i.invariant c.loop-i-test.false

@@ -3,7 +3,7 @@
 use borrow.Author.Rules.{rules}
 use native.Mathlib.Omega.{arith}
 use Prim.Native.Nat.{◌-◌}
-use Rattle.sections.proofs.Scan.{Scanned, scan_none, scan-more, scan-until, scan-all}
+use Rattle.sections.proofs.Scan.{Scanned, scan_none, scan_more, scan_until, scan_all}
 use Rattle.format.specs.Refusal.{neighbour_fault}
 use Rattle.sections.proofs.edges_fault.Given as goal
 

@@ -6,25 +6,25 @@ use mathlib.Core.Path.{◌≡◌, ap}
 use Prim.Native.Nat.{ℕ, ◌*◌}
 use native.Mathlib.Nat.{mul-le-mul_right}
 use Rattle.format.specs.Bytes.{number}
-use Rattle.sections.proofs.Heads.{head-short, head-low, head-high, head-long, head-whole}
+use Rattle.sections.proofs.Heads.{head_short, head_low, head_high, head_long, head_whole}
 use Rattle.sections.proofs.head_fault.Goals as goal
 
 pub returns-then-s-lt4 : goal.returns-then-s-lt4
 returns-then-s-lt4 c =
     let a = c.args in
-    head-short a.low a.high a.number a.size a.s.now c.if-s-lt4.true
+    head_short a.low a.high a.number a.size a.s.now c.if-s-lt4.true
 
 pub returns-then-k-low : goal.returns-then-k-low
 returns-then-k-low c =
     let a = c.args in
     let k : c.count-k.result ≡ number 4 a.s.now = c.count-k.ensures in
-    head-low a.low a.high a.number a.size a.s.now (omega arith) (omega arith) (omega arith)
+    head_low a.low a.high a.number a.size a.s.now (omega arith) (omega arith) (omega arith)
 
 pub returns-then-high-k : goal.returns-then-high-k
 returns-then-high-k c =
     let a = c.args in
     let k : c.count-k.result ≡ number 4 a.s.now = c.count-k.ensures in
-    head-high a.low a.high a.number a.size a.s.now (omega arith) (omega arith) (omega arith)
+    head_high a.low a.high a.number a.size a.s.now (omega arith) (omega arith) (omega arith)
 
 pub overflow_mul-size : goal.overflow_mul-size
 overflow_mul-size c =
@@ -41,11 +41,11 @@ returns-then-s-size c =
     let a = c.args in
     let k : c.count-k.result ≡ number 4 a.s.now = c.count-k.ensures in
     let m : a.size * c.count-k.result ≡ a.size * number 4 a.s.now = ap (λ (n : ℕ). a.size * n) k in
-    head-long a.low a.high a.number a.size a.s.now (omega arith) (omega arith) (omega arith) (omega arith)
+    head_long a.low a.high a.number a.size a.s.now (omega arith) (omega arith) (omega arith) (omega arith)
 
 pub returns-else-s-size : goal.returns-else-s-size
 returns-else-s-size c =
     let a = c.args in
     let k : c.count-k.result ≡ number 4 a.s.now = c.count-k.ensures in
     let m : a.size * c.count-k.result ≡ a.size * number 4 a.s.now = ap (λ (n : ℕ). a.size * n) k in
-    head-whole a.low a.high a.number a.size a.s.now (omega arith) (omega arith) (omega arith) (omega arith)
+    head_whole a.low a.high a.number a.size a.s.now (omega arith) (omega arith) (omega arith) (omega arith)

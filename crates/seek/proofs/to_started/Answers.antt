@@ -1,7 +1,7 @@
 -- `to_started` meets its contract: the path is erased, and the first point from the field's end is put down; no norm is given. Assumes nothing.
 use mathlib.Core.Path.{sym, ◌∙◌}
 use lib.Seq.{length-take-le}
-use Rattle.seek.proofs.LawsSeek.{started_near, started_writable, started-comes}
+use Rattle.seek.proofs.LawsSeek.{started_near, started_writable, started_comes}
 use borrow.Author.Rules.{rules}
 use Rattle.seek.proofs.to_started.Goals as goal
 
@@ -20,4 +20,4 @@ deliver-requires c =
 
 pub returns : goal.returns
 returns c =
-    started-comes _ _ _ _ _ _ _ _ _ _ _ _ c.at_norms-f.ensures c.solved_at-at.ensures c.pathless-s.ensures c.erase_path.ensures c.start_step-d.ensures c.deliver.ensures
+    started_comes _ _ _ _ _ _ _ _ _ _ _ _ c.at_norms-f.ensures c.solved_at-at.ensures c.pathless-s.ensures c.erase_path.ensures c.start_step-d.ensures c.deliver.ensures

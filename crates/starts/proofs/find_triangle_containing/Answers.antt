@@ -5,17 +5,17 @@ use native.Mathlib.Omega.{arith}
 use borrow.Author.Rules.{rules}
 use Rattle.mesh.specs.Work.{vertices_of, triangles_of}
 use Rattle.pde.specs.Start.{contained_in, triangle_containing}
-use Rattle.starts.proofs.StartLaws.{start_left, start-skip, start-found, start-done, containing_all, contained, contained-not}
+use Rattle.starts.proofs.StartLaws.{start_left, start_skip, start_found, start_done, containing_all, contained, contained_not}
 use Rattle.starts.proofs.find_triangle_containing.Goals as goal
 
 pub loop-t-init : goal.loop-t-init
 loop-t-init c = (omega arith, containing_all _ _ _ _)
 
 pub returns-then-contains : goal.returns-then-contains
-returns-then-contains c = start-found _ _ _ c.loop-t-test.true (contained _ _ _ _ (sym c.contains.ensures ∙ c.if-contains.true)) c.loop-t.invariant.1
+returns-then-contains c = start_found _ _ _ c.loop-t-test.true (contained _ _ _ _ (sym c.contains.ensures ∙ c.if-contains.true)) c.loop-t.invariant.1
 
 pub loop-t-preserved : goal.loop-t-preserved
-loop-t-preserved c = (omega arith, start-skip _ _ _ c.loop-t-test.true (contained-not _ _ _ _ (sym c.contains.ensures ∙ c.if-contains.false)) c.loop-t.invariant.1)
+loop-t-preserved c = (omega arith, start_skip _ _ _ c.loop-t-test.true (contained_not _ _ _ _ (sym c.contains.ensures ∙ c.if-contains.false)) c.loop-t.invariant.1)
 
 pub returns : goal.returns
-returns c = start-done _ _ _ c.loop-t-test.false c.loop-t.invariant.1
+returns c = start_done _ _ _ c.loop-t-test.false c.loop-t.invariant.1

@@ -5,7 +5,7 @@ use native.Mathlib.Omega.{arith}
 use borrow.Author.Rules.{rules}
 use Rattle.mesh.specs.Work.{vertices_of, triangles_of}
 use Rattle.pde.specs.Start.{contained_in, triangle_containing}
-use Rattle.starts.proofs.StartLaws.{start_left, start-skip, start-found, start-done, containing_all, contained, contained-not}
+use Rattle.starts.proofs.StartLaws.{start_left, start_skip, start_found, start_done, containing_all, contained, contained_not}
 use Rattle.starts.proofs.find_triangle_containing.Given as goal
 
 abbrev pub invariant-loop-t : goal.invariant-loop-t

@@ -5,7 +5,7 @@ use native.Mathlib.Omega.{arith}
 use borrow.Author.Rules.{rules}
 use Rattle.mesh.specs.Work.{vertices_of, triangles_of, neighbours_of, tags_of}
 use Rattle.pde.specs.Start.{inner_edge_of, first_inner}
-use Rattle.starts.proofs.StartLaws.{start_left, start-skip, start-found, start-done, first_inner-all}
+use Rattle.starts.proofs.StartLaws.{start_left, start_skip, start_found, start_done, first_inner-all}
 use Rattle.starts.proofs.first_inner_edge.Given as goal
 
 abbrev pub invariant-loop-t : goal.invariant-loop-t

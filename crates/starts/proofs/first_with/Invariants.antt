@@ -5,7 +5,7 @@ use native.Mathlib.Omega.{arith}
 use borrow.Author.Rules.{rules}
 use Rattle.mesh.specs.Work.{vertices_of, triangles_of}
 use Rattle.pde.specs.Start.{centroid_with, first_with}
-use Rattle.starts.proofs.StartLaws.{start_left, start-skip, start-found, start-done, with_all, with-is, with-not}
+use Rattle.starts.proofs.StartLaws.{start_left, start_skip, start_found, start_done, with_all, with_is, with_not}
 use Rattle.starts.proofs.first_with.Given as goal
 
 abbrev pub invariant-loop-t : goal.invariant-loop-t

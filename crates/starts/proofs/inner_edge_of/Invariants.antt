@@ -5,7 +5,7 @@ use native.Mathlib.Omega.{arith}
 use borrow.Author.Rules.{rules}
 use Rattle.mesh.specs.Work.{vertices_of, triangles_of, neighbours_of, tags_of}
 use Rattle.pde.specs.Start.{inner_edge, inner_edge_of}
-use Rattle.starts.proofs.StartLaws.{start_left, start-skip, start-found, start-done, inner-all, inner-is, inner-not}
+use Rattle.starts.proofs.StartLaws.{start_left, start_skip, start_found, start_done, inner-all, inner_is, inner_not}
 use Rattle.starts.proofs.inner_edge_of.Given as goal
 
 abbrev pub invariant-loop-e : goal.invariant-loop-e

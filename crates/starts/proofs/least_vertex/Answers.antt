@@ -6,7 +6,7 @@ use borrow.Author.Rules.{rules}
 use lib.ListN.{drop}
 use Rattle.stretch.specs.Stretch.{part}
 use Rattle.pde.specs.Start.{least_from, least_vertex}
-use Rattle.starts.proofs.StartLaws.{least_all, least-less, least-not, least_done}
+use Rattle.starts.proofs.StartLaws.{least_all, least_less, least_not, least_done}
 use Rattle.starts.proofs.least_vertex.Goals as goal
 use Rattle.starts.proofs.least_vertex.Goals.{then-x-value, else-x-value}
 
@@ -22,7 +22,7 @@ loop-i-preserved c =
     let l = c.loop-i in (
       omega arith,
       elim c.if-x-value.branch [
-        | then-x-value w ↦ rw (w.best-is, w.value-is) (least-less a.floats.now a.u a.n l.i l.best l.value c.requires c.loop-i-test.true l.invariant.1 w.if-x-value.true)
-        | else-x-value w ↦ rw (w.best-is, w.value-is) (least-not a.floats.now a.u a.n l.i l.best l.value c.requires c.loop-i-test.true l.invariant.1 w.if-x-value.false)
+        | then-x-value w ↦ rw (w.best-is, w.value-is) (least_less a.floats.now a.u a.n l.i l.best l.value c.requires c.loop-i-test.true l.invariant.1 w.if-x-value.true)
+        | else-x-value w ↦ rw (w.best-is, w.value-is) (least_not a.floats.now a.u a.n l.i l.best l.value c.requires c.loop-i-test.true l.invariant.1 w.if-x-value.false)
       ],
     )

@@ -7,7 +7,7 @@ use mathlib.Core.Logic.{⊎_elim}
 use lib.ListN.{drop}
 use Rattle.stretch.specs.Stretch.{part}
 use Rattle.pde.specs.Start.{least_from, least_vertex}
-use Rattle.starts.proofs.StartLaws.{least_all, least-less, least-not, least_done}
+use Rattle.starts.proofs.StartLaws.{least_all, least_less, least_not, least_done}
 use Rattle.starts.proofs.least_vertex.Given as goal
 
 abbrev pub invariant-loop-i : goal.invariant-loop-i

@@ -5,11 +5,11 @@ use native.Mathlib.Omega.{arith}
 use borrow.Author.Rules.{rules}
 use lib.ListN.{length, replicate}
 use Rattle.stretch.specs.Stretch.{splice}
-use Rattle.stretch.specs.LoopLaws.{write-none, fill_step}
+use Rattle.stretch.specs.LoopLaws.{write_none, fill_step}
 use Rattle.stretch.proofs.fill.Goals as goal
 
 pub loop-i-init : goal.loop-i-init
-loop-i-init c = (omega arith, refl, write-none _ _)
+loop-i-init c = (omega arith, refl, write_none _ _)
 
 pub loop-i-preserved : goal.loop-i-preserved
 loop-i-preserved c = (omega arith, search rules, fill_step _ _ _ _ _ c.loop-i.invariant.2)

@@ -1,6 +1,6 @@
 use native.Mathlib.Omega.{arith}
 use borrow.Author.Rules.{rules}
-use Rattle.laplace.proofs.LawsCorners.{Linkable, Linking, scan_none, scan-again, scan_done, next-below}
+use Rattle.laplace.proofs.LawsCorners.{Linkable, Linking, scan_none, scan_again, scan_done, next_below}
 use lib.ListN.{length-set}
 use Rattle.laplace.proofs.corners.link.Reads as reads
 use Rattle.laplace.proofs.corners.link.Lts as lts

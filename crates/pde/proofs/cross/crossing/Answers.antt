@@ -4,7 +4,7 @@ use borrow.Author.Rules.{rules}
 use Rattle.pde.specs.Crossing.{crossing_along}
 use Rattle.pde.specs.Exit.{Nearest}
 use Rattle.pde.specs.Bounds.{ExitIn, exit_in, exit_of}
-use Rattle.pde.proofs.LeavingLaws.{crossing-stuck, crossing-leaves}
+use Rattle.pde.proofs.LeavingLaws.{crossing_stuck, crossing_leaves}
 use Rattle.pde.proofs.cross.crossing.Goals as goal
 
 pub returns-then-mag-rule : goal.returns-then-mag-rule
@@ -13,7 +13,7 @@ returns-then-mag-rule c = rw (← c.magnitude-mag.ensures, c.if-mag-rule.true)
 
 pub returns-in_default : goal.returns-in_default
 returns-in_default c =
-    crossing-stuck _ _ _ _ _ _ _ _ _ _ _
+    crossing_stuck _ _ _ _ _ _ _ _ _ _ _
     c.magnitude-mag.ensures c.if-mag-rule.false c.direction-dir.ensures c.find_exit_edge-best.ensures
     c.in_default.is
 
@@ -25,6 +25,6 @@ beyond-requires c =
 
 pub returns : goal.returns
 returns c =
-    crossing-leaves _ _ _ _ _ _ _ _ _ _ _
+    crossing_leaves _ _ _ _ _ _ _ _ _ _ _
     c.magnitude-mag.ensures c.if-mag-rule.false c.direction-dir.ensures c.find_exit_edge-best.ensures
     c.in-Through.is c.pieces-n.ensures c.beyond.ensures

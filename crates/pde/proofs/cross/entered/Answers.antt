@@ -2,7 +2,7 @@
 use mathlib.Core.Path.{◌∙◌}
 use borrow.Author.Rules.{rules}
 use Rattle.mesh.specs.WorkLaws.{neighbour_below}
-use Rattle.pde.proofs.LeavingLaws.{entered-cut, entered-back}
+use Rattle.pde.proofs.LeavingLaws.{entered-cut, entered_back}
 use Rattle.pde.proofs.cross.entered.Goals as goal
 
 pub returns-then-next-eq-NONE : goal.returns-then-next-eq-NONE
@@ -18,4 +18,4 @@ entry_edge_of-requires c =
 pub returns : goal.returns
 returns c =
     let p = c.requires in
-    entered-back _ _ _ _ _ _ _ (neighbour_below p.0) p.1 p.2 p.3 c.if-next-eq-NONE.false c.wide.ensures c.entry_edge_of.ensures
+    entered_back _ _ _ _ _ _ _ (neighbour_below p.0) p.1 p.2 p.3 c.if-next-eq-NONE.false c.wide.ensures c.entry_edge_of.ensures

@@ -6,7 +6,7 @@ use borrow.Author.Rules.{rules}
 use Rattle.mesh.specs.Work.{neighbours_of}
 use Rattle.pde.specs.declared.Side.{Side}
 use Rattle.pde.specs.Exit.{names_back, entry_edge}
-use Rattle.pde.proofs.EdgeLaws.{side_left, side-skip, side-found, side-done, entry-all, names, names_not}
+use Rattle.pde.proofs.EdgeLaws.{side_left, side_skip, side_found, side_done, entry-all, names, names_not}
 use Rattle.pde.proofs.edges.entry_edge_of.Given as goal
 
 abbrev pub invariant-loop-e : goal.invariant-loop-e

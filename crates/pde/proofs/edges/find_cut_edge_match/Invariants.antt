@@ -7,7 +7,7 @@ use Rattle.mesh.specs.Mesh.{corner}
 use Rattle.mesh.specs.Work.{triangles_of, neighbours_of}
 use Rattle.pde.specs.declared.Side.{Side}
 use Rattle.pde.specs.Exit.{cut_edge, cut_triangle, cut_match}
-use Rattle.pde.proofs.EdgeLaws.{side_left, side-skip, side-found, side-done, cut_all, cut-here, cut-enter, cut-found, cut-not}
+use Rattle.pde.proofs.EdgeLaws.{side_left, side_skip, side_found, side_done, cut_all, cut_here, cut_enter, cut_found, cut_not}
 use Rattle.pde.proofs.edges.find_cut_edge_match.Given as goal
 
 abbrev pub invariant-loop-ei : goal.invariant-loop-ei

@@ -5,7 +5,7 @@ use native.Mathlib.Omega.{arith}
 use borrow.Author.Rules.{rules}
 use Rattle.mesh.specs.Work.{vertices_of, triangles_of}
 use Rattle.pde.specs.Exit.{nearest_of, rooted}
-use Rattle.pde.proofs.EdgeLaws.{nearest-none, nearest-step, nearest-done}
+use Rattle.pde.proofs.EdgeLaws.{nearest_none, nearest_step, nearest_done}
 use Rattle.pde.proofs.edges.find_exit_edge.Given as goal
 
 abbrev pub invariant-loop-e : goal.invariant-loop-e

@@ -3,7 +3,7 @@ use Prim.Native.Nat.{◌-◌, ◌≤◌}
 use native.Mathlib.Omega.{arith}
 use borrow.Author.Rules.{rules}
 use Rattle.laplace.specs.Whole.{rows_for, RowsPut}
-use Rattle.laplace.proofs.LawsMatrix.{rows_none, row-ready, rows-again, rows_done, rows-floats-long, rows-words-long}
+use Rattle.laplace.proofs.LawsMatrix.{rows_none, row_ready, rows_again, rows_done, rows_floats_long, rows_words_long}
 use Rattle.rows.proofs.matrix.fill_matrix.Given as goal
 
 abbrev pub invariant-loop-r : goal.invariant-loop-r

@@ -4,8 +4,8 @@ use Prim.Native.Nat.{◌*◌}
 use native.Mathlib.Omega.{arith}
 use borrow.Author.Rules.{rules}
 use lib.ListN.{length}
-use Rattle.laplace.proofs.LawsRow.{building-on, floats-long, words_long}
-use Rattle.laplace.proofs.LawsWalk.{Walking, ahead, walk_none, walk-less, walk-again, walk-done}
+use Rattle.laplace.proofs.LawsRow.{building_on, floats_long, words_long}
+use Rattle.laplace.proofs.LawsWalk.{Walking, ahead, walk_none, walk_less, walk_again, walk_done}
 use Rattle.rows.proofs.row.build.Given as goal
 
 abbrev pub invariant-loop-c : goal.invariant-loop-c

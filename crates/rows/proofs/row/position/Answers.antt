@@ -2,7 +2,7 @@
 use Prim.Native.Nat.{◌-◌}
 use native.Mathlib.Omega.{arith}
 use borrow.Author.Rules.{rules}
-use Rattle.laplace.proofs.LawsInsert.{Passed, pass_none, pass_step, pass-stop, pass-end}
+use Rattle.laplace.proofs.LawsInsert.{Passed, pass_none, pass_step, pass_stop, pass-end}
 use Rattle.rows.proofs.row.position.Goals as goal
 
 pub loop-p-init : goal.loop-p-init
@@ -10,7 +10,7 @@ loop-p-init c = pass_none _ _ _ _
 
 pub returns-then-words-q : goal.returns-then-words-q
 returns-then-words-q c =
-    (pass-stop _ _ _ _ _ c.requires c.loop-p.invariant c.loop-p-test.true c.if-words-q.true, omega (arith, c.loop-p.invariant.within))
+    (pass_stop _ _ _ _ _ c.requires c.loop-p.invariant c.loop-p-test.true c.if-words-q.true, omega (arith, c.loop-p.invariant.within))
 
 pub loop-p-preserved : goal.loop-p-preserved
 loop-p-preserved c =

@@ -2,7 +2,7 @@
 use Prim.Native.Nat.{◌-◌}
 use native.Mathlib.Omega.{arith}
 use borrow.Author.Rules.{rules}
-use Rattle.laplace.proofs.LawsInsert.{Passed, pass_none, pass_step, pass-stop, pass-end}
+use Rattle.laplace.proofs.LawsInsert.{Passed, pass_none, pass_step, pass_stop, pass-end}
 use Rattle.rows.proofs.row.position.Given as goal
 
 abbrev pub invariant-loop-p : goal.invariant-loop-p

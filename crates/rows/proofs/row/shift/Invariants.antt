@@ -1,7 +1,7 @@
 -- `shift` meets its contract: after each turn the elements from i on stand one place up, and those before it are as they were. Assumes nothing.
 use native.Mathlib.Omega.{arith}
 use borrow.Author.Rules.{rules}
-use Rattle.laplace.proofs.LawsInsert.{Shifted, shift_none, shift-again, shift-done}
+use Rattle.laplace.proofs.LawsInsert.{Shifted, shift_none, shift_again, shift_done}
 use Rattle.rows.proofs.row.shift.Given as goal
 
 abbrev pub invariant-loop-i : goal.invariant-loop-i

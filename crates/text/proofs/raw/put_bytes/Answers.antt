@@ -5,12 +5,12 @@ use Prim.Native.Nat.{◌-◌, ◌≤◌}
 use native.Mathlib.Omega.{arith}
 use lib.ListN.{length, take, length-set}
 use Rattle.stretch.specs.Stretch.{splice}
-use Rattle.stretch.specs.LoopLaws.{write-none}
+use Rattle.stretch.specs.LoopLaws.{write_none}
 use Rattle.text.specs.PutLaws.{bytes_step, bytes_put}
 use Rattle.text.proofs.raw.put_bytes.Goals as goal
 
 pub loop-i-init : goal.loop-i-init
-loop-i-init c = (omega arith, refl, write-none _ _)
+loop-i-init c = (omega arith, refl, write_none _ _)
 
 pub overflow_add-j : goal.overflow_add-j
 overflow_add-j c = omega arith

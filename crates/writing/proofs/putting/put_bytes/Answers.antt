@@ -6,14 +6,14 @@ use Prim.Native.Nat.{ℕ, ◌+◌, ◌-◌}
 use lib.ListN.{length, get_or}
 use Rattle.format.specs.Place.{placed}
 use Rattle.format.specs.PlaceLaws.{length-placed}
-use Rattle.writing.proofs.Puts.{Down, down-none, down-more, section_down, section-same, byte_put}
+use Rattle.writing.proofs.Puts.{Down, down_none, down_more, section_down, section-same, byte_put}
 use Rattle.writing.proofs.putting.put_bytes.Goals as goal
 
 pub put_u32-requires : goal.put_u32-requires
 put_u32-requires c = omega arith
 
 pub loop-i-init : goal.loop-i-init
-loop-i-init c = down-none _ _ _ _ _
+loop-i-init c = down_none _ _ _ _ _
 
 pub bounds-xs-i : goal.bounds-xs-i
 bounds-xs-i c = omega arith
@@ -29,7 +29,7 @@ loop-i-preserved c =
     let l = c.loop-i in
     let a = c.args in
     let x = get_or a.xs.now l.i 0 in
-    down-more _ _ _ _ _ 0 l.i (a.at + 4 + l.i) l.out _ l.invariant c.loop-i-test.true (omega arith) (byte_put l.out (a.at + 4 + l.i) x (c.shared_slice_known-in-loop-i-1.given l.i).fits)
+    down_more _ _ _ _ _ 0 l.i (a.at + 4 + l.i) l.out _ l.invariant c.loop-i-test.true (omega arith) (byte_put l.out (a.at + 4 + l.i) x (c.shared_slice_known-in-loop-i-1.given l.i).fits)
 
 pub returns : goal.returns
 returns c =

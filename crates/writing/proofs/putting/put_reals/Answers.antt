@@ -9,14 +9,14 @@ use lib.Ieee.{nan, binary64, to_bits}
 use Rattle.format.specs.Bytes.{bytes}
 use Rattle.format.specs.Place.{placed}
 use Rattle.format.specs.PlaceLaws.{length-placed}
-use Rattle.writing.proofs.Puts.{Down, down-none, down-more, section_down}
+use Rattle.writing.proofs.Puts.{Down, down_none, down_more, section_down}
 use Rattle.writing.proofs.putting.put_reals.Goals as goal
 
 pub put_u32-requires : goal.put_u32-requires
 put_u32-requires c = omega arith
 
 pub loop-i-init : goal.loop-i-init
-loop-i-init c = down-none _ _ _ _ _
+loop-i-init c = down_none _ _ _ _ _
 
 pub offset_bounds-xs-i : goal.offset_bounds-xs-i
 offset_bounds-xs-i c = omega arith
@@ -37,7 +37,7 @@ pub loop-i-preserved : goal.loop-i-preserved
 loop-i-preserved c =
     let l = c.loop-i in
     let a = c.args in
-    down-more _ _ _ _ _ nan l.i (a.at + 4 + 8 * l.i) l.out _ l.invariant c.loop-i-test.true refl (c.put_u64.ensures ∙ ap (λ (b : ℕ). placed l.out (a.at + 4 + 8 * l.i) (bytes 8 b)) c.pattern-bits.ensures)
+    down_more _ _ _ _ _ nan l.i (a.at + 4 + 8 * l.i) l.out _ l.invariant c.loop-i-test.true refl (c.put_u64.ensures ∙ ap (λ (b : ℕ). placed l.out (a.at + 4 + 8 * l.i) (bytes 8 b)) c.pattern-bits.ensures)
 
 pub returns : goal.returns
 returns c =

@@ -9,7 +9,7 @@ use lib.Ieee.{nan, binary64, to_bits}
 use Rattle.format.specs.Bytes.{bytes}
 use Rattle.format.specs.Place.{placed}
 use Rattle.format.specs.PlaceLaws.{length-placed}
-use Rattle.writing.proofs.Puts.{Down, down-none, down-more, section_down}
+use Rattle.writing.proofs.Puts.{Down, down_none, down_more, section_down}
 use Rattle.writing.proofs.putting.put_reals.Given as goal
 
 abbrev pub invariant-loop-i : goal.invariant-loop-i

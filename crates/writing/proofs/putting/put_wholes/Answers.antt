@@ -6,14 +6,14 @@ use Prim.Native.Nat.{ℕ, ◌+◌, ◌*◌, ◌-◌}
 use lib.ListN.{length}
 use Rattle.format.specs.Place.{placed}
 use Rattle.format.specs.PlaceLaws.{length-placed}
-use Rattle.writing.proofs.Puts.{Down, down-none, down-more, section_down, section-same}
+use Rattle.writing.proofs.Puts.{Down, down_none, down_more, section_down, section-same}
 use Rattle.writing.proofs.putting.put_wholes.Goals as goal
 
 pub put_u32-requires : goal.put_u32-requires
 put_u32-requires c = omega arith
 
 pub loop-i-init : goal.loop-i-init
-loop-i-init c = down-none _ _ _ _ _
+loop-i-init c = down_none _ _ _ _ _
 
 pub overflow_mul-i : goal.overflow_mul-i
 overflow_mul-i c = omega arith
@@ -34,7 +34,7 @@ pub loop-i-preserved : goal.loop-i-preserved
 loop-i-preserved c =
     let l = c.loop-i in
     let a = c.args in
-    down-more _ _ _ _ _ 0 l.i (a.at + 4 + 4 * l.i) l.out _ l.invariant c.loop-i-test.true refl c.put_u32-in-loop-i.ensures
+    down_more _ _ _ _ _ 0 l.i (a.at + 4 + 4 * l.i) l.out _ l.invariant c.loop-i-test.true refl c.put_u32-in-loop-i.ensures
 
 pub returns : goal.returns
 returns c =

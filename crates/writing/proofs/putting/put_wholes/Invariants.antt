@@ -6,7 +6,7 @@ use Prim.Native.Nat.{ℕ, ◌+◌, ◌*◌, ◌-◌}
 use lib.ListN.{length}
 use Rattle.format.specs.Place.{placed}
 use Rattle.format.specs.PlaceLaws.{length-placed}
-use Rattle.writing.proofs.Puts.{Down, down-none, down-more, section_down, section-same}
+use Rattle.writing.proofs.Puts.{Down, down_none, down_more, section_down, section-same}
 use Rattle.writing.proofs.putting.put_wholes.Given as goal
 
 abbrev pub invariant-loop-i : goal.invariant-loop-i

@@ -8,7 +8,7 @@ use Rattle.format.specs.Refusal.{each, neighbour_fault}
 use Rattle.format.specs.RefusalLaws.{Passed}
 use Rattle.writing.specs.Write.{neighbours_refusal}
 use Rattle.format.specs.SectionLaws.{unlike_refuses, unlike_passes}
-use Rattle.format.specs.RefusalLaws.{passed_none, list-more, list-until, list_all}
+use Rattle.format.specs.RefusalLaws.{passed_none, list_more, list_until, list_all}
 use Rattle.writing.proofs.refusing.neighbours_refusal.Given as goal
 
 abbrev pub invariant-loop-i : goal.invariant-loop-i

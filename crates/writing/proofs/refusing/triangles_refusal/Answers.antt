@@ -8,7 +8,7 @@ use Rattle.format.specs.Refusal.{each, vertex_fault}
 use Rattle.format.specs.RefusalLaws.{Passed}
 use Rattle.writing.specs.Write.{triangles_refusal}
 use Rattle.format.specs.SectionLaws.{over_refuses, over_passes, unlike_refuses, unlike_passes}
-use Rattle.format.specs.RefusalLaws.{passed_none, list-more, list-until, list_all}
+use Rattle.format.specs.RefusalLaws.{passed_none, list_more, list_until, list_all}
 use Rattle.writing.proofs.refusing.triangles_refusal.Goals as goal
 
 pub returns-then-t-gt-MAX_TRIANGLES : goal.returns-then-t-gt-MAX_TRIANGLES
@@ -33,7 +33,7 @@ bounds-xs-i c = omega arith
 
 pub returns-then-fault-ne0 : goal.returns-then-fault-ne0
 unfolding triangles_refusal
-returns-then-fault-ne0 c = over_passes _ _ _ _ c.if-t-gt-MAX_TRIANGLES.false (unlike_passes _ _ _ _ c.if-xs-t.false (list-until _ _ 0 _ _ c.loop-i.invariant c.loop-i-test.true c.vertex_fault-fault.ensures c.if-fault-ne0.true))
+returns-then-fault-ne0 c = over_passes _ _ _ _ c.if-t-gt-MAX_TRIANGLES.false (unlike_passes _ _ _ _ c.if-xs-t.false (list_until _ _ 0 _ _ c.loop-i.invariant c.loop-i-test.true c.vertex_fault-fault.ensures c.if-fault-ne0.true))
 
 pub overflow_add-i : goal.overflow_add-i
 overflow_add-i c = omega arith
@@ -42,7 +42,7 @@ pub loop-i-smaller : goal.loop-i-smaller
 loop-i-smaller c = omega arith
 
 pub loop-i-preserved : goal.loop-i-preserved
-loop-i-preserved c = list-more _ _ 0 _ _ c.loop-i.invariant c.loop-i-test.true c.vertex_fault-fault.ensures c.if-fault-ne0.false
+loop-i-preserved c = list_more _ _ 0 _ _ c.loop-i.invariant c.loop-i-test.true c.vertex_fault-fault.ensures c.if-fault-ne0.false
 
 pub returns : goal.returns
 unfolding triangles_refusal

@@ -9,7 +9,7 @@ use Rattle.format.specs.Refusal.{each, coordinate_fault}
 use Rattle.format.specs.RefusalLaws.{Passed}
 use Rattle.writing.specs.Write.{vertices_refusal}
 use Rattle.format.specs.SectionLaws.{over_refuses, over_passes, unlike_refuses, unlike_passes}
-use Rattle.format.specs.RefusalLaws.{passed_none, list-more, list-until, list_all}
+use Rattle.format.specs.RefusalLaws.{passed_none, list_more, list_until, list_all}
 use Rattle.writing.proofs.refusing.vertices_refusal.Goals as goal
 
 pub returns-then-n-gt-MAX_VERTICES : goal.returns-then-n-gt-MAX_VERTICES
@@ -34,7 +34,7 @@ bounds-xs-i c = omega arith
 
 pub returns-then-fault-ne0 : goal.returns-then-fault-ne0
 unfolding vertices_refusal
-returns-then-fault-ne0 c = over_passes _ _ _ _ c.if-n-gt-MAX_VERTICES.false (unlike_passes _ _ _ _ c.if-xs-n.false (list-until _ _ nan _ _ c.loop-i.invariant c.loop-i-test.true c.coordinate_fault-fault.ensures c.if-fault-ne0.true))
+returns-then-fault-ne0 c = over_passes _ _ _ _ c.if-n-gt-MAX_VERTICES.false (unlike_passes _ _ _ _ c.if-xs-n.false (list_until _ _ nan _ _ c.loop-i.invariant c.loop-i-test.true c.coordinate_fault-fault.ensures c.if-fault-ne0.true))
 
 pub overflow_add-i : goal.overflow_add-i
 overflow_add-i c = omega arith
@@ -43,7 +43,7 @@ pub loop-i-smaller : goal.loop-i-smaller
 loop-i-smaller c = omega arith
 
 pub loop-i-preserved : goal.loop-i-preserved
-loop-i-preserved c = list-more _ _ nan _ _ c.loop-i.invariant c.loop-i-test.true c.coordinate_fault-fault.ensures c.if-fault-ne0.false
+loop-i-preserved c = list_more _ _ nan _ _ c.loop-i.invariant c.loop-i-test.true c.coordinate_fault-fault.ensures c.if-fault-ne0.false
 
 pub returns : goal.returns
 unfolding vertices_refusal
