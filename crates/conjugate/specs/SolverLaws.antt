@@ -72,14 +72,14 @@ begun_long n a b ea eb =
 picks_long : (n : ℕ) (c d : Bool) (s : Solve) (x r : List Float) (t : Solve) (norm : Float) → Long n s → length x ≡ n → length r ≡ n → Long n t
     → Long n (after s (pick c halted (pick d (reached x r norm) (moved t norm))))
 picks_long n true d s x r t norm l ex er lt = l
-picks_long n false true s x r t norm l ex er lt = record { x_long = ex; r_long = er; p_long = l.p-long }
+picks_long n false true s x r t norm l ex er lt = record { x_long = ex; r_long = er; p_long = l.p_long }
 picks_long n false false s x r t norm l ex er lt = lt
 
 pub after_long : (n : ℕ) (tiny : Float) (a : List (List Entry)) (tolerance : Float) (s : Solve) → length a ≡ n → Long n s → Long n (after s (pass tiny a tolerance s))
 unfolding pass
 after_long n tiny a tolerance s ea l =
     let q : List Float = mat_vec a s.p in
-    let ex : length (next_x a s) ≡ n = zip_long (plus (s.rs ⊘ pap_of a s)) n s.x s.p l.x-long l.p-long in
-    let er : length (next_r a s) ≡ n = zip_long (less (s.rs ⊘ pap_of a s)) n s.r q l.r-long (length-mat_vec a s.p ∙ ea) in
-    let ep : length (next_of a s).p ≡ n = zip_long (plus (next_sum a s ⊘ s.rs)) n (next_r a s) s.p er l.p-long in
+    let ex : length (next_x a s) ≡ n = zip_long (plus (s.rs ⊘ pap_of a s)) n s.x s.p l.x_long l.p_long in
+    let er : length (next_r a s) ≡ n = zip_long (less (s.rs ⊘ pap_of a s)) n s.r q l.r_long (length-mat_vec a s.p ∙ ea) in
+    let ep : length (next_of a s).p ≡ n = zip_long (plus (next_sum a s ⊘ s.rs)) n (next_r a s) s.p er l.p_long in
     picks_long n (lt (abs_of (pap_of a s)) tiny) (lt (root (next_sum a s)) tolerance) s (next_x a s) (next_r a s) (next_of a s) (root (next_sum a s)) l ex er (record { x_long = ex; r_long = er; p_long = ep })

@@ -156,7 +156,7 @@ module _ (plan : Plan) (words : List ℕ) (floats : List Float) (s : Stand) (k :
         crossings_left = λ z h. absurd (omega (arith, none, h));
       };
       near = c.near;
-      floats_fit = c.floats-fit;
+      floats_fit = c.floats_fit;
     }
 
     set-anew : (f : List Float) (e : ℕ) (st : Start) → set_out_step (anew s) f e st ≡ set_out_step s f e st

@@ -100,7 +100,7 @@ module _ (plan : Plan) (f : List Float) (s : Stand) (long : length f ≡ at_norm
   front-placed halted l = stored_placed f plan.n (vectors_at plan.n plan.t) s.rs halted row l
   front-placed (reached x r norm) l = stored_placed f plan.n (vectors_at plan.n plan.t) s.rs (reached x r norm) row l
   front-placed (moved u norm) l =
-      sym (splice_comm _ (at_p plan.n plan.t) (at_product plan.n plan.t) u.p (replicate plan.n plus_zero) (omega (arith, l.p-long)))
+      sym (splice_comm _ (at_p plan.n plan.t) (at_product plan.n plan.t) u.p (replicate plan.n plus_zero) (omega (arith, l.p_long)))
 
 -- ---- a pass on the front and on the copies
 
@@ -109,7 +109,7 @@ module _ (plan : Plan) (words : List ℕ) (f floats v : List Float) (s : Stand) 
   M = matrix_at plan.n plan.t
 
   vectors_same : vectors_in plan.n plan.t f s.rs ≡ vectors_of v plan.n s.rs
-  vectors_same = rw (c.x-same, c.r-same, c.p-same)
+  vectors_same = rw (c.x_same, c.r_same, c.p_same)
 
   turn_same : turn_of plan words f s ≡ turn_on plan words floats v s
   turn_same = rw (c.matrix-same, vectors_same)
@@ -138,10 +138,10 @@ module _ (plan : Plan) (words : List ℕ) (f floats v : List Float) (s : Stand) 
       let p : part f' (at_p n t) n ≡ (after (vectors_of v n s.rs) (turn_on plan words floats v s)).p = ap (λ (u : Solve). u.p) (h.vectors ∙ same) in
       record {
         matrix-same = matrix_kept words f f' M r.sound (h.before (4 * n) (9 * t + n) (omega arith)) ∙ c.matrix-same;
-        vertices_same = h.before 0 (2 * n) (omega arith) ∙ c.vertices-same;
-        x_same = x ∙ sym w.x-is;
-        r_same = q ∙ sym w.r-is;
-        p_same = p ∙ sym w.p-is;
+        vertices_same = h.before 0 (2 * n) (omega arith) ∙ c.vertices_same;
+        x_same = x ∙ sym w.x_is;
+        r_same = q ∙ sym w.r_is;
+        p_same = p ∙ sym w.p_is;
         gradients-same = h.behind (at_gradients n t) (2 * t) (omega arith) ∙ c.gradients-same;
         long = h.as_long ∙ c.long;
       }
@@ -223,6 +223,6 @@ module _ (plan : Plan) (words : List ℕ) (floats : List Float) (s : Stand) wher
     standing = d.standing;
     solving = z;
     near = omega (arith, c.near, d.place);
-    floats_fit = omega (arith, c.floats-fit);
+    floats_fit = omega (arith, c.floats_fit);
     copies_fit = fits;
   }

@@ -35,19 +35,19 @@ module _ {n t : ℕ} {v b w a x r p q g : List Float} (l : Laid n t v b w a x r 
   -- ---- other segments as long
 
   pub laid_x : {y : List Float} → length y ≡ n → Laid n t v b w a y r p q g
-  laid_x e = record { vertices = l.vertices; right = l.right; row = l.row; values = l.values; x_long = e; r_long = l.r-long; p_long = l.p-long; product = l.product; gradients = l.gradients }
+  laid_x e = record { vertices = l.vertices; right = l.right; row = l.row; values = l.values; x_long = e; r_long = l.r_long; p_long = l.p_long; product = l.product; gradients = l.gradients }
 
   pub laid_r : {y : List Float} → length y ≡ n → Laid n t v b w a x y p q g
-  laid_r e = record { vertices = l.vertices; right = l.right; row = l.row; values = l.values; x_long = l.x-long; r_long = e; p_long = l.p-long; product = l.product; gradients = l.gradients }
+  laid_r e = record { vertices = l.vertices; right = l.right; row = l.row; values = l.values; x_long = l.x_long; r_long = e; p_long = l.p_long; product = l.product; gradients = l.gradients }
 
   pub laid_p : {y : List Float} → length y ≡ n → Laid n t v b w a x r y q g
-  laid_p e = record { vertices = l.vertices; right = l.right; row = l.row; values = l.values; x_long = l.x-long; r_long = l.r-long; p_long = e; product = l.product; gradients = l.gradients }
+  laid_p e = record { vertices = l.vertices; right = l.right; row = l.row; values = l.values; x_long = l.x_long; r_long = l.r_long; p_long = e; product = l.product; gradients = l.gradients }
 
   pub laid_product : {y : List Float} → length y ≡ n → Laid n t v b w a x r p y g
-  laid_product e = record { vertices = l.vertices; right = l.right; row = l.row; values = l.values; x_long = l.x-long; r_long = l.r-long; p_long = l.p-long; product = e; gradients = l.gradients }
+  laid_product e = record { vertices = l.vertices; right = l.right; row = l.row; values = l.values; x_long = l.x_long; r_long = l.r_long; p_long = l.p_long; product = e; gradients = l.gradients }
 
   pub laid_gradients : {y : List Float} → length y ≡ 2 * t → Laid n t v b w a x r p q y
-  laid_gradients e = record { vertices = l.vertices; right = l.right; row = l.row; values = l.values; x_long = l.x-long; r_long = l.r-long; p_long = l.p-long; product = l.product; gradients = e }
+  laid_gradients e = record { vertices = l.vertices; right = l.right; row = l.row; values = l.values; x_long = l.x_long; r_long = l.r_long; p_long = l.p_long; product = l.product; gradients = e }
 
   -- ---- before the norms, and from them on
 

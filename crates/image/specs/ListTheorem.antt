@@ -99,7 +99,7 @@ module _ (c : Task) (facts : Facts c) where
   floats_lead s w = record {
     head = floats_of c (at c s.place) s.mark [];
     split = λ r. floats_split c (at c s.place) s.mark r;
-    long = facts.floats_long s.place s.mark [] w.place_in w.mark-in ∙ omega arith;
+    long = facts.floats_long s.place s.mark [] w.place_in w.mark_in ∙ omega arith;
   }
 
   words_lead : Leads (λ r. words_of c r) (words_used c)
@@ -111,7 +111,7 @@ module _ (c : Task) (facts : Facts c) where
   pub lengths_image : (s : Counter) (rest : Rest) → Within (last_place c) s → lengths_of (image c s rest) ≡ sizes c rest
   unfolding image
   lengths_image s rest w =
-      rw (facts.floats_long s.place s.mark rest.floats w.place_in w.mark-in, facts.words_long rest.words, facts.path_long s.place rest.path w.place_in)
+      rw (facts.floats_long s.place s.mark rest.floats w.place_in w.mark_in, facts.words_long rest.words, facts.path_long s.place rest.path w.place_in)
 
   -- a front that is long enough is an image too
   pub front-image : (s : Counter) (rest : Rest) (lent : Space) → Within (last_place c) s → Enough (needs c) lent → front lent (image c s rest) ≡ image c s (lent_rest c lent rest)
@@ -147,7 +147,7 @@ module _ (c : Task) (facts : Facts c) where
       → sought_at (run_of c s) (image c s rest) target ≡ work_at c q s.mark rest.floats rest.path
   unfolding run_of image
   sought s rest target q w e =
-      facts.seek-image s.place target s.mark rest.floats rest.words rest.path w.place_in w.mark-in
+      facts.seek-image s.place target s.mark rest.floats rest.words rest.path w.place_in w.mark_in
       ∙ ap (λ (j : ℕ). work_at c j s.mark rest.floats rest.path) e
 
   gone_at : (call : Call) (s : Counter) (rest : Rest) → Within (last_place c) s → gone call (run_of c s) (image c s rest) ≡ work_on c (moved (last_place c) call s) rest
@@ -156,9 +156,9 @@ module _ (c : Task) (facts : Facts c) where
       let l : _ = facts.last_bound in
       sought s rest (min (s.place + k) (farthest (triangle_count c) c.limit)) (min (s.place + k) (last_place c)) w (omega arith)
   gone_at (back k) s rest w = let h : s.place ≤ last_place c = w.place_in in sought s rest (s.place - k) (s.place - k) w (omega arith)
-  gone_at mark s rest w = ap (λ (l : List Float). work l (path_of c (at c s.place) rest.path) (stand_of s.place (at c s.place))) (facts.mark_image s.place s.mark rest.floats w.place_in w.mark-in)
+  gone_at mark s rest w = ap (λ (l : List Float). work l (path_of c (at c s.place) rest.path) (stand_of s.place (at c s.place))) (facts.mark_image s.place s.mark rest.floats w.place_in w.mark_in)
   gone_at return s rest w =
-      let h : mark_or s.mark s.place ≤ last_place c = mark_place_lem s.mark s.place w.place_in w.mark-in in
+      let h : mark_or s.mark s.place ≤ last_place c = mark_place_lem s.mark s.place w.place_in w.mark_in in
       let e : mark_place (mark_of c s.mark) s.place ≡ mark_or s.mark s.place = same_mark s.mark s.place in
       sought s rest (mark_place (mark_of c s.mark) s.place) (mark_or s.mark s.place) w (omega arith)
 
@@ -190,10 +190,10 @@ module _ (c : Task) (facts : Facts c) where
   -- ---- the machine stays within the run
 
   within-moved : (call : Call) (s : Counter) → Within (last_place c) s → Within (last_place c) (moved (last_place c) call s)
-  within-moved (advance k) s w = record { place_in = omega arith; mark_in = w.mark-in }
-  within-moved (back k) s w = let h : s.place ≤ last_place c = w.place_in in record { place_in = omega arith; mark_in = w.mark-in }
+  within-moved (advance k) s w = record { place_in = omega arith; mark_in = w.mark_in }
+  within-moved (back k) s w = let h : s.place ≤ last_place c = w.place_in in record { place_in = omega arith; mark_in = w.mark_in }
   within-moved mark s w = record { place_in = w.place_in; mark_in = w.place_in }
-  within-moved return s w = record { place_in = mark_place_lem s.mark s.place w.place_in w.mark-in; mark_in = w.mark-in }
+  within-moved return s w = record { place_in = mark_place_lem s.mark s.place w.place_in w.mark_in; mark_in = w.mark_in }
 
   -- where a call is not refused, and where it is
   within-pick : (t : Bool) (call : Call) (s : Counter) → Within (last_place c) s → Within (last_place c) (pick t (moved (last_place c) call s) s)
@@ -244,7 +244,7 @@ module _ (c : Task) (good : Sized c) (facts : Facts c) where
   image_fine : (s : Counter) (rest : Rest) → Within (last_place c) s → lacking (needs c) (lengths_of (image c s rest)) ≡ false → held_fault (run_of c s) (image c s rest) ≡ 0
   unfolding run_of image needs
   image_fine s rest w e =
-      held_fine (run_of c s) (image c s rest) (counted c good) e (facts.stand_sound_lem s.place w.place_in) (facts.mark_sound_lem s.mark w.mark-in) (facts.words_sound_lem rest.words)
+      held_fine (run_of c s) (image c s rest) (counted c good) e (facts.stand_sound_lem s.place w.place_in) (facts.mark_sound_lem s.mark w.mark_in) (facts.words_sound_lem rest.words)
 
   image-fault : (call : Call) (s : Counter) (rest : Rest) → Within (last_place c) s → held_fault (run_of c s) (image c s rest) ≡ 0 → fault call (run_of c s) (image c s rest) ≡ late (last_place c) call s
   unfolding fault

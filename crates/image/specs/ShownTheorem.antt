@@ -178,7 +178,7 @@ module _ (c : Task) (good : Sized c) (facts : Facts c) (parts : Parts c) where
   image-shown s rest w =
       let e : _ = w.place_in in
       let l : _ = facts.last_bound in
-      let m : _ = parts.read_back s.place s.mark rest.floats rest.words w.place_in w.mark-in in
+      let m : _ = parts.read_back s.place s.mark rest.floats rest.words w.place_in w.mark_in in
       record {
         place = refl;
         passes = refl;

@@ -62,7 +62,7 @@ image_handed : (c : Task) → Sized c → (s : Counter) (rest : Rest) → Within
 unfolding field_of norms_of gradients_of points_of part run_of image
 image_handed c good s rest w =
     let shows : Shown c s (run_of c s) (image c s rest) = image-shown c good (facts c good) (parts c good) s rest w in
-    let f : length (image c s rest).floats ≡ floats_used c + length rest.floats = (facts c good).floats_long s.place s.mark rest.floats w.place_in w.mark-in in
+    let f : length (image c s rest).floats ≡ floats_used c + length rest.floats = (facts c good).floats_long s.place s.mark rest.floats w.place_in w.mark_in in
     let l : length (image c s rest).path ≡ point_floats * c.room + length rest.path = (facts c good).path_long s.place rest.path w.place_in in
     let m : length (at c s.place).field.norms ≤ c.limit + 1 = (parts c good).norms_long s.place w.place_in in
     let n : (at c s.place).trail.walk.points ≤ c.room = (parts c good).points_in_lem s.place w.place_in in

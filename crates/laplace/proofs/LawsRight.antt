@@ -40,7 +40,7 @@ wrote_then {l} {l'} {l''} {a} {b} {at} u v =
 
 module _ (f : List Float) (w : List ℕ) (n right tags : ℕ) (c : Couples f w n right tags) where
   pub wrote_same : Wrote f f right n (part f right n)
-  wrote_same = record { is = sym (splice_part f right n); long = length_part f right n c.floats-fit; fits = c.floats-fit }
+  wrote_same = record { is = sym (splice_part f right n); long = length_part f right n c.floats_fit; fits = c.floats_fit }
 
   tag_at : (x : ℕ) → x < n → tag_of (part w tags n) x ≡ get_or w (tags + x) 0
   unfolding tag_of
@@ -53,9 +53,9 @@ module _ (f : List Float) (w : List ℕ) (n right tags : ℕ) (c : Couples f w n
       let y = get_or f (right + x) nan ⊖ v ⊗ held_value (get_or w (tags + h) 0) in
       let e : get_or (part f right n) x nan ⊖ v ⊗ held_value (tag_of (part w tags n) h) ≡ y = rw (get_d_part f right n x nan hx, tag_at h hh) in
       record {
-        is = replaced f right n x y hx c.floats-fit ∙ ap (λ (z : Float). splice f right (set (part f right n) x z)) (sym e);
-        long = simp length-set (length_part f right n c.floats-fit);
-        fits = c.floats-fit;
+        is = replaced f right n x y hx c.floats_fit ∙ ap (λ (z : Float). splice f right (set (part f right n) x z)) (sym e);
+        long = simp length-set (length_part f right n c.floats_fit);
+        fits = c.floats_fit;
       }
 
   module _ (i j : ℕ) (v : Float) (hi : i < n) (hj : j < n) where
@@ -104,7 +104,7 @@ module _ (f : List Float) (w : List ℕ) (n right tags : ℕ) (c : Couples f w n
 -- ---- several pushes
 
 pub couples_on : {f f' rhs : List Float} {w : List ℕ} {n right tags : ℕ} → Couples f w n right tags → Wrote f f' right n rhs → Couples f' w n right tags
-couples_on {f} {f'} {rhs} {w} {n} {right} c u = record { floats_fit = rw (as_long u) c.floats-fit; words_fit = c.words-fit }
+couples_on {f} {f'} {rhs} {w} {n} {right} c u = record { floats_fit = rw (as_long u) c.floats_fit; words_fit = c.words_fit }
 
 -- the three of a side
 pub side_coupled : {f f₁ f₂ f₃ : List Float} {right n : ℕ} (tags : List ℕ) (p q r : Push) → Wrote f f₁ right n (coupled_by tags p (part f right n))
@@ -291,7 +291,7 @@ module _ (f₀ : List Float) (w : List ℕ) (n right tags : ℕ) (c : Couples f�
       rw (m, s) (write_step f₀ f right i l v ll p)
 
   pub settle_done : (f : List Float) (i : ℕ) → i ≡ n → f ≡ splice f₀ right (settled held_value (part w tags i) (part f₀ right i)) → Wrote f₀ f right n (settled held_value (part w tags n) (part f₀ right n))
-  settle_done f i e p = record { is = rw e at p; long = settled_long n (omega arith); fits = c.floats-fit }
+  settle_done f i e p = record { is = rw e at p; long = settled_long n (omega arith); fits = c.floats_fit }
 
 -- ---- the whole right side
 

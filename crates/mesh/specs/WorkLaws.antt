@@ -18,11 +18,11 @@ length_vertices floats m h = length_part floats m.vertices (2 * m.n) h
 
 pub length_triangles : {words : List ℕ} {m : Mesh} → Linked words m → length (triangles_of words m) ≡ 3 * m.t
 unfolding triangles_of
-length_triangles {words} {m} l = length_part words m.triangles (3 * m.t) l.triangles-fit
+length_triangles {words} {m} l = length_part words m.triangles (3 * m.t) l.triangles_fit
 
 pub length_neighbours : {words : List ℕ} {m : Mesh} → Linked words m → length (neighbours_of words m) ≡ 3 * m.t
 unfolding neighbours_of
-length_neighbours {words} {m} l = length_part words m.neighbours (3 * m.t) l.neighbours-fit
+length_neighbours {words} {m} l = length_part words m.neighbours (3 * m.t) l.neighbours_fit
 
 -- ---- the bounds
 

@@ -507,7 +507,7 @@ inside c s =
     (λ (k : ℕ) (n : 0 < k) (m : k ≤ 9). record { triangle = λ (z : 0 < 0). absurd (omega arith); zero_or_below = inl refl; edge = omega arith }))
     (λ (us : List Float) (t : Trail) (h : 0 < t.walk.points) (ih : Inside (triangle_count c) t.walk).
     let w : Stands (triangle_count c) (crossing_pass c us t).walk = crossing_walk c s us t (record { triangle_below = ih.triangle h; edge_most = ih.edge }) in
-    record { triangle = λ (z : 0 < (crossing_pass c us t).walk.points). w.triangle_below; zero_or_below = inr w.triangle_below; edge = w.edge-most })
+    record { triangle = λ (z : 0 < (crossing_pass c us t).walk.points). w.triangle_below; zero_or_below = inr w.triangle_below; edge = w.edge_most })
 
 pub walk_triangle : (c : Task) → Sized c → (p : ℕ) → 0 < (at c p).trail.walk.points → (at c p).trail.walk.triangle < triangle_count c
 walk_triangle c s p h = (inside c s p).triangle h

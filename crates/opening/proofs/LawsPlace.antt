@@ -94,14 +94,14 @@ module _ (sheet : List ℕ) (h : Header) (read : Read sheet h) (floats : List Fl
 
   pub assembles : LaidFloats floats₁ h.n h.t places × LaidWords words₁ h.n h.t places
   assembles =
-      rw (e, n_is read, t_is read, l.floats-are, l.words_are)
+      rw (e, n_is read, t_is read, l.floats_are, l.words_are)
       (lays_floats mesh (sized_read read) floats words floats_fit words_fit, lays_words mesh (sized_read read) floats words floats_fit words_fit)
 
   pub lays_out : (floats' : List Float) (words' : List ℕ) (k : ℕ)
       → Assembled floats₁ words₁ floats' words' h.n h.t places k (rows_for flat floats₁ words₁ h.n h.t places h.n)
       (right_side held_value (tags_in words₁ h.n places) (pushes_in flat floats₁ words₁ h.n h.t places) h.n)
       → LaidOut mesh floats words floats' words'
-  lays_out floats' words' k a = laid_out mesh (sized_read read) floats words floats_fit words_fit floats' words' k (rw (e, n_is read, t_is read, l.floats-are, l.words_are, ← (task-held default_limit (content_of sheet))) at a)
+  lays_out floats' words' k a = laid_out mesh (sized_read read) floats words floats_fit words_fit floats' words' k (rw (e, n_is read, t_is read, l.floats_are, l.words_are, ← (task-held default_limit (content_of sheet))) at a)
 
 -- ---- place 0 of the field
 
@@ -203,8 +203,8 @@ module _ (sheet : List ℕ) (h : Header) (plan : Plan) (b : Buffers) (s : Suffic
       → path' ≡ splice b.path 0 (replicate (2 * plan.room) plus_zero) → run ≡ new_run plan rs → Stands c b run (buffers floats₂ words₁ path')
   unfolding run_of new_run image at place0
   stands floats₁ floats₂ path' words₁ rs run l g p r =
-      let e : rs ≡ (place0 c).field.solve.rs = g.sum ∙ rw (plan_of_lem, l.words_are, l.floats-are) (sum-opened c good b.floats floats_long spare) in
-      let f : floats₂ ≡ floats_of c (place0 c) none (drop (floats_used c) b.floats) = g.floats_are ∙ rw (plan_of_lem, l.words_are, l.floats-are) (floats_opened c good b.floats floats_long spare) in
+      let e : rs ≡ (place0 c).field.solve.rs = g.sum ∙ rw (plan_of_lem, l.words_are, l.floats_are) (sum-opened c good b.floats floats_long spare) in
+      let f : floats₂ ≡ floats_of c (place0 c) none (drop (floats_used c) b.floats) = g.floats_are ∙ rw (plan_of_lem, l.words_are, l.floats_are) (floats_opened c good b.floats floats_long spare) in
       let q : path' ≡ path_of c (place0 c) (drop (point_floats * c.room) b.path) = p ∙ ap (λ (x : Plan). splice b.path 0 (replicate (2 * x.room) plus_zero)) plan_of_lem ∙ path_opened in
       record {
         run_is = r ∙ rw (plan_of_lem, e);

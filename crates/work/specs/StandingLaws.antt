@@ -132,7 +132,7 @@ module _ (plan : Plan) (s : Stand) (x : Crossing) where
         norms_most = st.norms_most;
         points_most = walked-most plan.room b s.walk x st.points_most;
         triangle_in = λ _. w.triangle_below;
-        edge_in = w.edge-most;
+        edge_in = w.edge_most;
         crossings_left = λ h _. on_left b eb (st.crossings_left e z) h;
       }
 
