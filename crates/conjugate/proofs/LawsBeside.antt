@@ -14,9 +14,9 @@ use Rattle.binary64.specs.Number.{abs_of}
 use Rattle.binary64.specs.Root.{root}
 use Rattle.stretch.specs.Stretch.{part, splice, Wrote}
 use Rattle.stretch.specs.StretchLaws.{length_part, length-splice, part_all, splice_nil, get_or-splice-before, get_or-splice-after, set-splice-before, part_splice-after, part_splice-same}
-use Rattle.stretch.specs.LoopLaws.{write_step}
+use Rattle.stretch.proofs.LoopLaws.{write_step}
 use Rattle.stretch.specs.Vec.{dot, dot_from, plus, less}
-use Rattle.stretch.specs.VecLaws.{dot_step, dot_snoc, length_zip_part, zip_part_suc}
+use Rattle.stretch.proofs.VecLaws.{dot_step, dot_snoc, length_zip_part, zip_part_suc}
 use Rattle.sparse.specs.declared.Csr.{Csr}
 use Rattle.sparse.specs.Sparse.{mat_vec}
 use Rattle.sparse.specs.Stored.{matrix}

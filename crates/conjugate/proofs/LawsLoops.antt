@@ -11,7 +11,7 @@ use Rattle.binary64.specs.Arith.{◌⊕◌, ◌⊖◌, ◌⊗◌}
 use Rattle.binary64.specs.Constants.{plus_zero}
 use Rattle.stretch.specs.Stretch.{part}
 use Rattle.stretch.specs.Vec.{dot, dot_from, plus, less, Zips}
-use Rattle.stretch.specs.VecLaws.{dot_snoc, length_zip_part, zip_part_suc}
+use Rattle.stretch.proofs.VecLaws.{dot_snoc, length_zip_part, zip_part_suc}
 use Rattle.conjugate.specs.declared.Vectors.{Vectors}
 use Rattle.conjugate.specs.Placed.{InRow, Reads, moved_x, moved_r, Stepped, residual, Resides}
 use Rattle.conjugate.proofs.LawsTriple.{Off, triple, triple_none, triple_step, get_or-triple}

@@ -14,7 +14,7 @@ use Rattle.binary64.specs.Root.{root}
 use Rattle.stretch.specs.Stretch.{part, splice, Wrote}
 use Rattle.stretch.specs.StretchLaws.{length_part, length-splice, splice_comm, splice-splice-same, part_splice-before, part_splice-after, part_splice-same, got, kept_before, kept_after, as_long}
 use Rattle.stretch.specs.Vec.{plus, less}
-use Rattle.stretch.specs.VecLaws.{length_zip, length_zip_part}
+use Rattle.stretch.proofs.VecLaws.{length_zip, length_zip_part}
 use Rattle.sparse.specs.declared.Csr.{Csr}
 use Rattle.sparse.specs.Sparse.{mat_vec}
 use Rattle.sparse.specs.Stored.{matrix}

@@ -7,7 +7,7 @@ use native.Mathlib.Omega.{arith}
 use lib.ListN.{length, get_or, set}
 use Rattle.stretch.specs.Stretch.{splice}
 use Rattle.stretch.specs.StretchLaws.{splice_nil, length-splice, get_or-splice-before, get_or-splice-after, set-splice-before, splice_comm, splice-splice-same}
-use Rattle.stretch.specs.LoopLaws.{write_step}
+use Rattle.stretch.proofs.LoopLaws.{write_step}
 
 -- place k is outside the stretch of i from `at`
 abbrev pub Off : ℕ → ℕ → ℕ → Type 0

@@ -10,7 +10,7 @@ use Rattle.binary64.specs.Constants.{plus_zero}
 use Rattle.binary64.specs.Number.{pick, abs_of}
 use Rattle.binary64.specs.Root.{root}
 use Rattle.stretch.specs.Vec.{dot, plus, less}
-use Rattle.stretch.specs.VecLaws.{length_zip}
+use Rattle.stretch.proofs.VecLaws.{length_zip}
 use Rattle.sparse.specs.Sparse.{Entry, mat_vec}
 use Rattle.sparse.specs.ProductLaws.{length-mat_vec}
 use Rattle.conjugate.specs.Solver.{Solve, Turn, halted, reached, moved, pass, begun}

@@ -28,7 +28,7 @@ use Rattle.image.specs.Image.{run_of, image, rest_of}
 use Rattle.image.specs.Points.{points_of}
 use Rattle.image.specs.Replay.{Opening, opening, opened_by, opened, Opens}
 use Rattle.image.specs.CallLaws.{lacking}
-use Rattle.image.specs.ReplayTheorem.{replayed-refused}
+use Rattle.image.proofs.ReplayTheorem.{replayed-refused}
 use Rattle.image.specs.Shown.{lengths_of}
 use Rattle.records.specs.Numbers.{fits, flagged, run_from, wholes_run, reals_run}
 use Rattle.controls.specs.Controls.{flag_fault, held_fault_in, fault_in, refusal_or8, open_fault_in, length_fault_in, needed_by, needed_fault, OpenedIn, Called, Measured, start_by, HandedBy, Needed}

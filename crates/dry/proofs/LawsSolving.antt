@@ -14,7 +14,7 @@ use Rattle.binary64.specs.Constants.{plus_zero}
 use Rattle.binary64.specs.Number.{pick}
 use Rattle.stretch.specs.Stretch.{part, splice}
 use Rattle.stretch.specs.StretchLaws.{length_part, length-splice, part_zero, part_suc, part_part, part_of_take, part_splice-same, splice_comm}
-use Rattle.stretch.specs.LoopLaws.{write_none, write_step}
+use Rattle.stretch.proofs.LoopLaws.{write_none, write_step}
 use Rattle.sparse.specs.declared.Csr.{Csr}
 use Rattle.sparse.specs.Stored.{matrix}
 use Rattle.sparse.specs.ProductLaws.{length-rows_of, matrix_kept}

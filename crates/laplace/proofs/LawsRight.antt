@@ -16,7 +16,7 @@ use Rattle.binary64.specs.Number.{pick}
 use Rattle.binary64.specs.NumberLaws.{both}
 use Rattle.stretch.specs.Stretch.{part, splice, Wrote}
 use Rattle.stretch.specs.StretchLaws.{length_part, get_d_part, part_zero, part_suc, splice_part, splice-splice-same, got, kept_before, as_long, get_or-splice-after}
-use Rattle.stretch.specs.LoopLaws.{write_none, write_step}
+use Rattle.stretch.proofs.LoopLaws.{write_none, write_step}
 use Rattle.laplace.specs.declared.Places.{Places}
 use Rattle.laplace.specs.declared.element.Side.{Side}
 use Rattle.laplace.specs.declared.element.Stiff.{Stiff}

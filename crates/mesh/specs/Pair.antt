@@ -6,7 +6,7 @@ use Rattle.plane.specs.declared.Point.{Point}
 use Rattle.plane.specs.Plane.{point}
 use Rattle.stretch.specs.Stretch.{part, splice}
 use Rattle.stretch.specs.StretchLaws.{get_d_part}
-use Rattle.stretch.specs.LoopLaws.{write_step}
+use Rattle.stretch.proofs.LoopLaws.{write_step}
 
 abbrev pub pair : Point → List Float
 pair p = p.x ∷ p.y ∷ []

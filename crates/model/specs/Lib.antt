@@ -1,12 +1,6 @@
 pub mod Task
-pub mod TaskLaws
 pub mod Space
 pub mod Run
 pub mod Machine
 pub mod SolvedPlace
 pub mod Sized
-pub mod PassLaws
-pub mod SizeLaws
-pub mod RunLaws
-pub mod Shown
-pub mod Samples

@@ -13,7 +13,7 @@ use Rattle.binary64.specs.Constants.{plus_zero}
 use Rattle.plane.specs.declared.Point.{Point}
 use Rattle.stretch.specs.Stretch.{part, splice}
 use Rattle.stretch.specs.StretchLaws.{part_zero, part_all, part_add, part_cons, splice_nil}
-use Rattle.stretch.specs.LoopLaws.{write_step}
+use Rattle.stretch.proofs.LoopLaws.{write_step}
 use Rattle.format.specs.Content.{Content, vertex_count, triangle_count}
 use Rattle.format.specs.Sheet.{content_of}
 use Rattle.sheet.specs.declared.Header.{Header}

@@ -34,10 +34,10 @@ use Rattle.sheet.specs.declared.Checked.{Checked}
 use Rattle.sheet.specs.Answer.{checked_of}
 use Rattle.sheet.specs.ItemLaws.{IsAccepted, is_accepted, is_refused, Within, header_within}
 use Rattle.model.specs.Task.{Task, vertex_count, triangle_count, task_of, task}
-use Rattle.model.specs.TaskLaws.{task-held}
+use Rattle.model.proofs.TaskLaws.{task-held}
 use Rattle.model.specs.Sized.{Sized}
 use Rattle.model.specs.Run.{at, place0}
-use Rattle.model.specs.SizeLaws.{sized}
+use Rattle.model.proofs.SizeLaws.{sized}
 use Rattle.model.specs.Machine.{needs}
 use Rattle.work.specs.declared.Plan.{Plan}
 use Rattle.work.specs.declared.Run.{Run}
@@ -49,13 +49,13 @@ use Rattle.image.specs.Accepted.{ready}
 use Rattle.image.specs.Calls.{Buffers, buffers, answered}
 use Rattle.image.specs.CallLaws.{Counted, lacking, lacking_none}
 use Rattle.image.specs.Image.{plan_of, floats_of, words_of, path_of, floats_used, words_used, run_of, image}
-use Rattle.image.specs.ImageLawsLengths.{length_words}
-use Rattle.image.specs.ImageLawsPadded.{padded_nil}
-use Rattle.image.specs.ImageLawsSound.{words_sound_lem}
-use Rattle.image.specs.ListTheorem.{counted}
+use Rattle.image.proofs.ImageLawsLengths.{length_words}
+use Rattle.image.proofs.ImageLawsPadded.{padded_nil}
+use Rattle.image.proofs.ImageLawsSound.{words_sound_lem}
+use Rattle.image.proofs.ListTheorem.{counted}
 use Rattle.image.specs.Opening.{plan_by, places_at, Read, Fits, Loaded, LaidOut, Begins, none_kept, begun_floats, Begun, lacks, Suffices, Stands}
 use Rattle.image.specs.Replay.{Opens}
-use Rattle.image.specs.ReplayLaws.{opens_refused, opens_short, opens_open}
+use Rattle.image.proofs.ReplayLaws.{opens_refused, opens_short, opens_open}
 use Rattle.image.specs.Shown.{lengths_of}
 use Rattle.opening.proofs.LawsOpened.{lays_floats, lays_words, laid_out, sum-opened, floats_opened}
 

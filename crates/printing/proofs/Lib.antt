@@ -1,2 +1,3 @@
 pub mod LawsText
 pub mod LawsLast
+pub mod Samples

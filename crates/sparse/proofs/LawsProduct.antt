@@ -14,7 +14,7 @@ use Rattle.binary64.specs.Constants.{plus_zero}
 use Rattle.stretch.specs.Stretch.{part, splice}
 use Rattle.stretch.specs.StretchLaws.{length_part, part_suc, part_part, get_d_part, splice_nil, splice_snoc, part_splice-before, part_splice-after}
 use Rattle.stretch.specs.Vec.{dot, dot_from}
-use Rattle.stretch.specs.VecLaws.{dot_snoc}
+use Rattle.stretch.proofs.VecLaws.{dot_snoc}
 use Rattle.sparse.specs.declared.Csr.{Csr}
 use Rattle.sparse.specs.Sparse.{Entry, entry, row_from, row_product, mat_vec, entries}
 use Rattle.sparse.specs.Stored.{start, end, row_at, rows_of, matrix, Below}

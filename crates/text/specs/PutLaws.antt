@@ -3,7 +3,7 @@ use Rattle.std.specs.Prelude.{◌≡◌, refl, List, [], ◌∷◌, ◌++◌, �
 use Rattle.std.proofs.Common.{sym, ap, ◌∙◌, add-zero, add-one, arith, length-append, take-suc, take_all, length-take-le}
 use Rattle.stretch.specs.Stretch.{splice}
 use Rattle.stretch.specs.StretchLaws.{length-splice, splice_nil, splice-one, splice-append}
-use Rattle.stretch.specs.LoopLaws.{write_step}
+use Rattle.stretch.proofs.LoopLaws.{write_step}
 use Rattle.text.specs.Put.{Puts, Left, Printed}
 
 pub puts : {s l : List ℕ} {at next : ℕ} {text : List ℕ} → l ≡ splice s at text → next ≡ at + length text → Puts s at text next l

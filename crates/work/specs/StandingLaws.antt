@@ -17,7 +17,7 @@ use Rattle.pde.specs.PathLaws.{walked-most, walked_stands}
 use Rattle.pde.specs.Bounds.{StartIn, CrossingIn, containing_in, pick_start_in, crossing_in_lem}
 use Rattle.model.specs.Space.{factor}
 use Rattle.model.specs.Run.{rule, next_by}
-use Rattle.model.specs.PassLaws.{walked_last}
+use Rattle.model.proofs.PassLaws.{walked_last}
 use Rattle.work.specs.declared.Given.{Given}
 use Rattle.work.specs.declared.Gives.{Gives}
 use Rattle.work.specs.declared.Plan.{Plan}

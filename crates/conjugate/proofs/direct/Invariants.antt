@@ -7,7 +7,7 @@ use borrow.Author.Rules.{rules}
 use lib.ListN.{length}
 use Rattle.stretch.specs.Stretch.{part, splice}
 use Rattle.stretch.specs.Vec.{plus}
-use Rattle.stretch.specs.VecLaws.{zip_none, zip_step, zip_done}
+use Rattle.stretch.proofs.VecLaws.{zip_none, zip_step, zip_done}
 use Rattle.conjugate.proofs.LawsLoops.{for_direction}
 use Rattle.conjugate.proofs.LawsLoops.{for_direction}
 use Rattle.conjugate.proofs.LawsLoops.{for_direction}

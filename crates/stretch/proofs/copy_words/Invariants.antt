@@ -5,7 +5,7 @@ use native.Mathlib.Omega.{arith}
 use borrow.Author.Rules.{rules}
 use lib.ListN.{length}
 use Rattle.stretch.specs.Stretch.{part, splice}
-use Rattle.stretch.specs.LoopLaws.{copy_none, copy_step}
+use Rattle.stretch.proofs.LoopLaws.{copy_none, copy_step}
 use Rattle.stretch.proofs.copy_words.Given as goal
 
 abbrev pub invariant-loop-i : goal.invariant-loop-i

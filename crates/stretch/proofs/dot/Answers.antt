@@ -5,7 +5,7 @@ use native.Mathlib.Omega.{arith}
 use borrow.Author.Rules.{rules}
 use Rattle.stretch.specs.Stretch.{part}
 use Rattle.stretch.specs.Vec as Vec
-use Rattle.stretch.specs.VecLaws.{dot_none, dot_step}
+use Rattle.stretch.proofs.VecLaws.{dot_none, dot_step}
 use Rattle.stretch.proofs.dot.Goals as goal
 
 pub loop-i-init : goal.loop-i-init

@@ -5,7 +5,7 @@ use native.Mathlib.Omega.{arith}
 use borrow.Author.Rules.{rules}
 use lib.ListN.{length, replicate}
 use Rattle.stretch.specs.Stretch.{splice}
-use Rattle.stretch.specs.LoopLaws.{write_none, fill_step}
+use Rattle.stretch.proofs.LoopLaws.{write_none, fill_step}
 use Rattle.stretch.proofs.fill.Given as goal
 
 abbrev pub invariant-loop-i : goal.invariant-loop-i

@@ -8,7 +8,7 @@ use lib.ListN.{length, drop, set, length-set}
 use Rattle.image.specs.Calls.{buffers}
 use Rattle.image.specs.Lists.{Held}
 use Rattle.image.specs.Replay.{lent_at, replayed}
-use Rattle.image.specs.ReplayLaws.{replayed_none, replayed-more, length-said, turn, said_more}
+use Rattle.image.proofs.ReplayLaws.{replayed_none, replayed-more, length-said, turn, said_more}
 use Rattle.run.proofs.replaying.make.Given as goal
 
 abbrev pub invariant-loop-i : goal.invariant-loop-i

@@ -1,6 +1,6 @@
 -- `perform` meets its contract: each kind of call is its own, and any kind beyond them is a return. Assumes nothing.
 use borrow.Author.Rules.{rules}
-use Rattle.image.specs.ReplayLaws.{call_else}
+use Rattle.image.proofs.ReplayLaws.{call_else}
 use Rattle.run.proofs.replaying.perform.Goals as goal
 
 pub returns-in-0 : goal.returns-in-0

@@ -1,7 +1,7 @@
 -- `replay` meets its contract, by the theorem over lists of calls. Assumes nothing.
 use Rattle.format.specs.Bytes.{Bytes}
-use Rattle.image.specs.ReplayTheorem.{replayed-refused}
-use Rattle.image.specs.Theorem.{replay_open}
+use Rattle.image.proofs.ReplayTheorem.{replayed-refused}
+use Rattle.image.proofs.Theorem.{replay_open}
 use borrow.Author.Rules.{rules}
 use Rattle.run.proofs.replaying.replay.Goals as goal
 

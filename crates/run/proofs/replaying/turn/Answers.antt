@@ -5,7 +5,7 @@ use Prim.Native.Nat.{◌+◌, ◌*◌}
 use native.Mathlib.Omega.{arith}
 use lib.Seq.{length-take-le}
 use Rattle.image.specs.Replay.{lent_at}
-use Rattle.image.specs.ReplayLaws.{turned}
+use Rattle.image.proofs.ReplayLaws.{turned}
 use Rattle.run.proofs.replaying.turn.Goals as goal
 
 pub overflow_cast-calls : goal.overflow_cast-calls

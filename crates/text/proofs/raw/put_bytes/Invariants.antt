@@ -5,7 +5,7 @@ use Prim.Native.Nat.{◌-◌, ◌≤◌}
 use native.Mathlib.Omega.{arith}
 use lib.ListN.{length, take, length-set}
 use Rattle.stretch.specs.Stretch.{splice}
-use Rattle.stretch.specs.LoopLaws.{write_none}
+use Rattle.stretch.proofs.LoopLaws.{write_none}
 use Rattle.text.specs.PutLaws.{bytes_step, bytes_put}
 use Rattle.text.proofs.raw.put_bytes.Given as goal
 

@@ -10,7 +10,7 @@ use Rattle.format.specs.Sheet.{accepted, parse}
 use Rattle.format.specs.Theorems.{parse_sound}
 use Rattle.model.specs.Task.{Task, vertex_count, triangle_count, task}
 use Rattle.model.specs.Sized.{Sized}
-use Rattle.model.specs.SizeLaws.{sized}
+use Rattle.model.proofs.SizeLaws.{sized}
 use Rattle.model.specs.Run.{State, at, last_place}
 use Rattle.model.specs.Machine.{Space, Counter, fresh, needs, short, Lent}
 use Rattle.work.specs.declared.Run.{Run}
@@ -18,16 +18,16 @@ use Rattle.work.specs.Layout.{at_x, at_gradients, at_norms}
 use Rattle.image.specs.declared.Answer.{Answer}
 use Rattle.image.specs.Calls.{Buffers, answered}
 use Rattle.image.specs.Image.{plan_of, run_of, Rest, image, floats_used, rest_of}
-use Rattle.image.specs.Instance.{facts, parts}
+use Rattle.image.proofs.Instance.{facts, parts}
 use Rattle.image.specs.Lists.{Held, front, performs}
-use Rattle.image.specs.ListTheorem.{Within, lent_rest, front-image, list_theorem, machine-within}
+use Rattle.image.proofs.ListTheorem.{Within, lent_rest, front-image, list_theorem, machine-within}
 use Rattle.image.specs.Parts.{within, counted, field_of, norms_of, gradients_of}
 use Rattle.image.specs.Points.{points_of}
 use Rattle.image.specs.Replay.{opened, Opens, Performs, Replayed}
-use Rattle.image.specs.ReplayTheorem as Replays
-use Rattle.image.specs.ReplayTheorem.{not_short, as_long, opened_run, open_space}
+use Rattle.image.proofs.ReplayTheorem as Replays
+use Rattle.image.proofs.ReplayTheorem.{not_short, as_long, opened_run, open_space}
 use Rattle.image.specs.Shown.{lengths_of, machine, state_at, Shown, ListShown, HandedOut}
-use Rattle.image.specs.ShownTheorem.{image-shown, list_shown}
+use Rattle.image.proofs.ShownTheorem.{image-shown, list_shown}
 
 -- a record and the buffers, before any call
 abbrev pub begun : Run → Buffers → Held

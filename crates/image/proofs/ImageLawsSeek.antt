@@ -12,16 +12,16 @@ use Rattle.model.specs.Task.{Task, triangle_count}
 use Rattle.model.specs.Run.{State, Field, Trail, state, no_trail, at, last_place}
 use Rattle.model.specs.Sized.{Sized}
 use Rattle.model.specs.SolvedPlace.{solved_place}
-use Rattle.model.specs.RunLaws.{unsolved_trail, solved_at_lem, gradients_stay, solved-le, solved_field, solved_trail, norms_grow}
+use Rattle.model.proofs.RunLaws.{unsolved_trail, solved_at_lem, gradients_stay, solved-le, solved_field, solved_trail, norms_grow}
 use Rattle.work.specs.declared.Origin.{Origin}
 use Rattle.work.specs.Memory.{Work, once, goes, from_mark, origin_of, to_started, to_solved, to_kept, to_zero, from_origin, seek}
 use Rattle.work.specs.StartedLaws.{started_stand, started_path}
 use Rattle.image.specs.CallLaws.{and_true}
 use Rattle.image.specs.Image.{plan_of, kept_at, mark_of, floats_of, words_of}
-use Rattle.image.specs.ImageLawsLengths.{shaped_at}
-use Rattle.image.specs.ImageLawsPass.{image_of, image_work, work_is}
-use Rattle.image.specs.ImageLawsGoes.{goes-image}
-use Rattle.image.specs.ImageLawsOrigin.{to_solved_lem, to_zero_lem, to_kept_lem}
+use Rattle.image.proofs.ImageLawsLengths.{shaped_at}
+use Rattle.image.proofs.ImageLawsPass.{image_of, image_work, work_is}
+use Rattle.image.proofs.ImageLawsGoes.{goes-image}
+use Rattle.image.proofs.ImageLawsOrigin.{to_solved_lem, to_zero_lem, to_kept_lem}
 
 -- a state by its field and its trail
 state_is : (s : State) (f : Field) (t : Trail) → s.field ≡ f → s.trail ≡ t → state f t ≡ s

@@ -17,16 +17,16 @@ use Rattle.pde.specs.Path.{point_floats, coordinates_of}
 use Rattle.model.specs.Task.{Task, vertex_count, triangle_count}
 use Rattle.model.specs.Run.{State, Field, state, matrix_of, right_of, no_trail, place0, at}
 use Rattle.model.specs.Sized.{Sized, Vectors}
-use Rattle.model.specs.SizeLaws.{matrix-length, right_length, begun_vectors}
+use Rattle.model.proofs.SizeLaws.{matrix-length, right_length, begun_vectors}
 use Rattle.model.specs.SolvedPlace.{solved_place}
 use Rattle.work.specs.Layout.{at_x, at_norms, at_kept}
 use Rattle.work.specs.Memory.{path_erased, gradients_erased, norms_erased, begun_again, vectors_put, to_solved, to_kept, to_zero}
 use Rattle.image.specs.Image.{plan_of, stand_of, kept_at, kept_vectors, front_segments, floats_of, words_of, path_of}
-use Rattle.image.specs.ImageLawsPadded.{length-padded, padded-more, padded-cut, padded_erased}
-use Rattle.image.specs.ImageLawsSegments.{zeros, laid_x, laid_r, laid_p, laid_gradients, part_right, part_values, part_kept, put_x, put_r, put_p, put_product, put_vectors, put_gradients, put_norms}
-use Rattle.image.specs.ImageLawsLengths.{Shaped, Lies, shaped_at, laid, length_kept, length_norms, length_points}
-use Rattle.image.specs.ImageLawsRead.{matrix-read}
-use Rattle.image.specs.ImageLawsPass.{image_of, work_is}
+use Rattle.image.proofs.ImageLawsPadded.{length-padded, padded-more, padded-cut, padded_erased}
+use Rattle.image.proofs.ImageLawsSegments.{zeros, laid_x, laid_r, laid_p, laid_gradients, part_right, part_values, part_kept, put_x, put_r, put_p, put_product, put_vectors, put_gradients, put_norms}
+use Rattle.image.proofs.ImageLawsLengths.{Shaped, Lies, shaped_at, laid, length_kept, length_norms, length_points}
+use Rattle.image.proofs.ImageLawsRead.{matrix-read}
+use Rattle.image.proofs.ImageLawsPass.{image_of, work_is}
 
 module _ (c : Task) (z : Sized c) (s : State) (h : Shaped c s) (p : ℕ) (m : Option ℕ) (floats : List Float) (words : List ℕ) (path : List Float) where
   abbrev n : ℕ

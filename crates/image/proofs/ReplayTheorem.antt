@@ -19,12 +19,12 @@ use Rattle.image.specs.declared.Answer.{Answer}
 use Rattle.image.specs.Calls.{Buffers, answered}
 use Rattle.image.specs.CallLaws.{Enough, lacking, lacking_none}
 use Rattle.image.specs.Image.{run_of, image, floats_used, words_used, rest_of}
-use Rattle.image.specs.ImageFacts.{Facts, Parts}
+use Rattle.image.proofs.ImageFacts.{Facts, Parts}
 use Rattle.image.specs.Lists.{Held}
-use Rattle.image.specs.ListTheorem.{sizes, fresh-within, lengths_image, list_theorem, machine-within}
+use Rattle.image.proofs.ListTheorem.{sizes, fresh-within, lengths_image, list_theorem, machine-within}
 use Rattle.image.specs.Replay.{Opening, opening, opened_by, opened, Opens, decoded, call_count, replayed, Performs, machine_of, Ran, Replayed}
 use Rattle.image.specs.Shown.{lengths_of, machine}
-use Rattle.image.specs.ShownTheorem.{image-shown}
+use Rattle.image.proofs.ShownTheorem.{image-shown}
 
 -- ---- the buffers as opening leaves them are as long as they were
 

@@ -20,7 +20,7 @@ use Rattle.work.specs.Memory.{Work, work}
 use Rattle.image.specs.Calls.{Buffers, buffers, held_fault, gone, sought_at, mark_place, late_fault, fault, next_run, run_after, buffers_after}
 use Rattle.image.specs.CallLaws.{Counted, Enough, lacking, lacking_none, held-short, held_fine, refused_unchanged}
 use Rattle.image.specs.Image.{plan_of, stand_of, mark_of, run_of, floats_of, words_of, path_of, Rest, image, floats_used, words_used}
-use Rattle.image.specs.ImageFacts.{MarkIn, work_at, Facts}
+use Rattle.image.proofs.ImageFacts.{MarkIn, work_at, Facts}
 use Rattle.image.specs.Lists.{Held, front, behind, performed, performs}
 use Rattle.image.specs.Shown.{lengths_of, machine}
 

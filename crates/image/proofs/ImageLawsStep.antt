@@ -8,8 +8,8 @@ use Rattle.stretch.specs.Stretch.{splice, flat}
 use Rattle.laplace.specs.Placed.{padded}
 use Rattle.work.specs.Layout.{at_x, at_r, at_p, at_norms}
 use Rattle.work.specs.Memory.{cleared}
-use Rattle.image.specs.ImageLawsPadded.{length-padded, padded-more}
-use Rattle.image.specs.ImageLawsSegments.{zeros, Laid, segments, laid_x, laid_r, joined_segs, put_x, put_r, put_p, put_product, put_norms}
+use Rattle.image.proofs.ImageLawsPadded.{length-padded, padded-more}
+use Rattle.image.proofs.ImageLawsSegments.{zeros, Laid, segments, laid_x, laid_r, joined_segs, put_x, put_r, put_p, put_product, put_norms}
 
 module _ {n t : ℕ} {v b w a x r p g : List Float} (l : Laid n t v b w a x r p (zeros n) g) where
   -- the product is clear already

@@ -15,14 +15,14 @@ use Rattle.laplace.specs.Placed.{values_of, columns_of, starts_of, padded}
 use Rattle.model.specs.Task.{Task, vertex_count, triangle_count}
 use Rattle.model.specs.Run.{State, matrix_of, right_of}
 use Rattle.model.specs.Sized.{Sized}
-use Rattle.model.specs.SizeLaws.{matrix-length}
+use Rattle.model.proofs.SizeLaws.{matrix-length}
 use Rattle.work.specs.Layout.{at_right, at_values, at_x, at_r, at_p, at_kept, at_gradients, at_norms, at_neighbours, at_tags, at_starts, at_columns, matrix_at}
 use Rattle.work.specs.Memory.{front_of}
 use Rattle.image.specs.Image.{plan_of, kept_vectors, front_segments, floats_of, words_of, path_of}
-use Rattle.image.specs.ImageLawsMatrix.{length_values, length_columns, read_back}
-use Rattle.image.specs.ImageLawsPadded.{length-padded, part_padded}
-use Rattle.image.specs.ImageLawsSegments.{part_vertices, part_right, part_values, part_x, part_r, part_p, part_kept, part_gradients, part_norms, front_segs}
-use Rattle.image.specs.ImageLawsLengths.{Shaped, few, laid, length_norms, length_points, length_kept, length_kept_columns, length_row_starts, word_segments}
+use Rattle.image.proofs.ImageLawsMatrix.{length_values, length_columns, read_back}
+use Rattle.image.proofs.ImageLawsPadded.{length-padded, part_padded}
+use Rattle.image.proofs.ImageLawsSegments.{part_vertices, part_right, part_values, part_x, part_r, part_p, part_kept, part_gradients, part_norms, front_segs}
+use Rattle.image.proofs.ImageLawsLengths.{Shaped, few, laid, length_norms, length_points, length_kept, length_kept_columns, length_row_starts, word_segments}
 
 -- the front of a padded stretch
 part_stretch : {A : Type 0} (l : List A) (at k : ℕ) (d : A) (xs : List A) (n : ℕ) → part l at k ≡ padded k d xs → length xs ≡ n → n ≤ k → part l at n ≡ xs

@@ -12,7 +12,7 @@ use Rattle.binary64.specs.Number.{pick, abs_of}
 use Rattle.binary64.specs.Root.{root}
 use Rattle.plane.specs.declared.Point.{Point}
 use Rattle.stretch.specs.Vec.{dot, plus, less}
-use Rattle.stretch.specs.VecLaws.{length_zip}
+use Rattle.stretch.proofs.VecLaws.{length_zip}
 use Rattle.sparse.specs.Sparse.{Entry, mat_vec}
 use Rattle.sparse.specs.ProductLaws.{length-mat_vec}
 use Rattle.mesh.specs.Mesh.{neighbour, no_neighbour, free, held}

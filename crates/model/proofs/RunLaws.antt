@@ -12,10 +12,10 @@ use Rattle.model.specs.Task.{Task, vertex_count, triangle_count}
 use Rattle.model.specs.Space.{factor, farthest}
 use Rattle.model.specs.Run.{State, Field, Trail, state, no_trail, matrix_of, right_of, place0, starting, solving, crossing_pass, pass, at, finished, last_from, last_place}
 use Rattle.model.specs.SolvedPlace.{solved_place}
-use Rattle.model.specs.PassLaws.{finished-end, unfinished_end, pass_elim, pass-over, pass_solve, pass_begin, pass_cross, solving_on, solving_off, solving_norms, starting_elim, crossing_on, crossing_counts, crossing_points, solving-end, crossing-end}
+use Rattle.model.proofs.PassLaws.{finished-end, unfinished_end, pass_elim, pass-over, pass_solve, pass_begin, pass_cross, solving_on, solving_off, solving_norms, starting_elim, crossing_on, crossing_counts, crossing_points, solving-end, crossing-end}
 use Rattle.model.specs.Sized.{Sized, Vectors}
 use Rattle.pde.specs.PathLaws.{Stands}
-use Rattle.model.specs.SizeLaws.{matrix-length, right_length, begun_vectors, solving_vectors, gradients-length, crossing_path_length, crossing_room, crossing_walk, crossing_path, crossing-gradients}
+use Rattle.model.proofs.SizeLaws.{matrix-length, right_length, begun_vectors, solving_vectors, gradients-length, crossing_path_length, crossing_room, crossing_walk, crossing_path, crossing-gradients}
 
 -- ---- places in order
 

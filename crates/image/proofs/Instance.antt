@@ -5,15 +5,15 @@ use Rattle.std.proofs.Common.{arith}
 use Rattle.model.specs.Task.{Task}
 use Rattle.model.specs.Run.{at, matrix_of, last_place}
 use Rattle.model.specs.Sized.{Sized}
-use Rattle.model.specs.SizeLaws.{right_length}
-use Rattle.model.specs.RunLaws.{last_bound, vectors_sized, gradients_sized, norms_bound, points_bound}
-use Rattle.image.specs.ImageFacts.{MarkIn, Facts, Parts}
-use Rattle.image.specs.ImageLawsGoes as Goes
-use Rattle.image.specs.ImageLawsLengths.{shaped_at, few, length_floats, length_words, length_points, length_path}
-use Rattle.image.specs.ImageLawsMatrix.{length_values}
-use Rattle.image.specs.ImageLawsRead.{matrix-image}
-use Rattle.image.specs.ImageLawsSeek as Seek
-use Rattle.image.specs.ImageLawsSound as Sound
+use Rattle.model.proofs.SizeLaws.{right_length}
+use Rattle.model.proofs.RunLaws.{last_bound, vectors_sized, gradients_sized, norms_bound, points_bound}
+use Rattle.image.proofs.ImageFacts.{MarkIn, Facts, Parts}
+use Rattle.image.proofs.ImageLawsGoes as Goes
+use Rattle.image.proofs.ImageLawsLengths.{shaped_at, few, length_floats, length_words, length_points, length_path}
+use Rattle.image.proofs.ImageLawsMatrix.{length_values}
+use Rattle.image.proofs.ImageLawsRead.{matrix-image}
+use Rattle.image.proofs.ImageLawsSeek as Seek
+use Rattle.image.proofs.ImageLawsSound as Sound
 
 module _ (c : Task) (z : Sized c) where
   marked : (m : Option ℕ) → MarkIn m (last_place c) → Sound.MarkIn c z m

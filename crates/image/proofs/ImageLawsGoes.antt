@@ -12,12 +12,12 @@ use Rattle.laplace.specs.Placed.{padded}
 use Rattle.model.specs.Task.{Task}
 use Rattle.model.specs.Run.{at, finished, last_place}
 use Rattle.model.specs.Sized.{Sized}
-use Rattle.model.specs.RunLaws.{last_first, last_finished}
+use Rattle.model.proofs.RunLaws.{last_first, last_finished}
 use Rattle.work.specs.Memory.{Work, once, goes, kept_floats}
 use Rattle.image.specs.Image.{plan_of, kept_vectors, floats_of, words_of}
-use Rattle.image.specs.ImageLawsSegments.{part_vectors, put_kept}
-use Rattle.image.specs.ImageLawsLengths.{shaped_at, laid, length_kept, length_norms}
-use Rattle.image.specs.ImageLawsPass.{image_work, once-over, once-image}
+use Rattle.image.proofs.ImageLawsSegments.{part_vectors, put_kept}
+use Rattle.image.proofs.ImageLawsLengths.{shaped_at, laid, length_kept, length_norms}
+use Rattle.image.proofs.ImageLawsPass.{image_work, once-over, once-image}
 
 module _ (c : Task) (z : Sized c) (m : Option ℕ) (floats : List Float) (words : List ℕ) (path : List Float) where
   abbrev E : ℕ

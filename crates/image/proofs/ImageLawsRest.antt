@@ -19,7 +19,7 @@ use Rattle.sparse.specs.Stored.{matrix}
 use Rattle.sparse.specs.ProductLaws.{length-rows_of}
 use Rattle.model.specs.Sized.{Vectors}
 use Rattle.model.specs.SolvedPlace.{solved_at}
-use Rattle.model.specs.SizeLaws.{begun_vectors}
+use Rattle.model.proofs.SizeLaws.{begun_vectors}
 use Rattle.model.specs.Machine.{Call, advance, back, mark, return}
 use Rattle.work.specs.declared.Plan.{Plan}
 use Rattle.work.specs.declared.Kept.{Kept}
@@ -32,8 +32,8 @@ use Rattle.work.specs.StartedLaws.{started_stand, started_path}
 use Rattle.image.specs.Accepted.{Accepted, accepted, then_none}
 use Rattle.image.specs.Calls.{Buffers, buffers, held_fault, work_of, gone, late_fault, fault, buffers_after}
 use Rattle.image.specs.CallLaws.{and_true}
-use Rattle.image.specs.ImageLawsSegments.{zeros}
-use Rattle.image.specs.ImageLawsKeeps.{Kept-from, same, kept_splice, then_splice, part_short, used_by, Keeps, keeps_none, keeps_both, InRange, norms_most, keeps_once, in_once}
+use Rattle.image.proofs.ImageLawsSegments.{zeros}
+use Rattle.image.proofs.ImageLawsKeeps.{Kept-from, same, kept_splice, then_splice, part_short, used_by, Keeps, keeps_none, keeps_both, InRange, norms_most, keeps_once, in_once}
 
 -- kept, and in range again
 pub record Moves (plan : Plan) (w w' : Work) : Type 0 where

@@ -28,18 +28,18 @@ use Rattle.model.specs.Space.{factor}
 use Rattle.model.specs.Run.{State, state, rule, matrix_of, solved, solving, set_out, start_from, starting, crossed, crossing_pass, next_by, pass_by, pass, at, finished}
 use Rattle.model.specs.Run.{next_of as next_in}
 use Rattle.model.specs.Sized.{Sized, Vectors}
-use Rattle.model.specs.SizeLaws.{gradients-length}
+use Rattle.model.proofs.SizeLaws.{gradients-length}
 use Rattle.work.specs.declared.Plan.{Plan}
 use Rattle.work.specs.declared.Stand.{Stand}
 use Rattle.work.specs.declared.Gives.{Gives}
 use Rattle.work.specs.Layout.{at_norms}
 use Rattle.work.specs.Memory.{Stepped, solved_stand, solved_step, set_out_step, solve_step, start_by, begin_step, cross_step, step_by, next_of, step_on, Work, work, floats_given, path_given, front_of, beyond_front, once}
 use Rattle.image.specs.Image.{given_of, plan_of, stand_of, kept_vectors, front_segments, floats_of, words_of, path_of}
-use Rattle.image.specs.ImageLawsPadded.{length-padded, padded-more}
-use Rattle.image.specs.ImageLawsSegments.{laid_x, laid_r, laid_p, laid_gradients, front_segs, beyond_segs, joined_segs, part_vertices, part_values, part_x, part_r, part_p, part_gradients, put_gradients}
-use Rattle.image.specs.ImageLawsLengths.{Shaped, fronts, Lies, shaped_at, laid}
-use Rattle.image.specs.ImageLawsRead.{words_triangles, words_neighbours, words_tags, matrix-read}
-use Rattle.image.specs.ImageLawsStep.{clear_segs, reached_segs, moved_segs, norm_segs}
+use Rattle.image.proofs.ImageLawsPadded.{length-padded, padded-more}
+use Rattle.image.proofs.ImageLawsSegments.{laid_x, laid_r, laid_p, laid_gradients, front_segs, beyond_segs, joined_segs, part_vertices, part_values, part_x, part_r, part_p, part_gradients, put_gradients}
+use Rattle.image.proofs.ImageLawsLengths.{Shaped, fronts, Lies, shaped_at, laid}
+use Rattle.image.proofs.ImageLawsRead.{words_triangles, words_neighbours, words_tags, matrix-read}
+use Rattle.image.proofs.ImageLawsStep.{clear_segs, reached_segs, moved_segs, norm_segs}
 
 -- the buffers and the scalars of a state, at place p and with a mark
 abbrev pub image_of : Task → State → ℕ → Option ℕ → List Float → List Float → Work

@@ -17,15 +17,15 @@ use Rattle.laplace.specs.Matrix.{AllBelow, row_rising, row_below, pushes_below, 
 use Rattle.laplace.specs.Placed.{values_of, padded}
 use Rattle.pde.specs.Path.{point_floats, coordinates_of}
 use Rattle.model.specs.Task.{Task, vertex_count, triangle_count}
-use Rattle.model.specs.SizeLaws.{length-rows}
+use Rattle.model.proofs.SizeLaws.{length-rows}
 use Rattle.model.specs.Sized.{Sized}
 use Rattle.model.specs.Run.{at, matrix_of, last_place}
 use Rattle.model.specs.Machine.{Counter, fresh, Lent}
 use Rattle.work.specs.Layout.{at_x, at_gradients, at_norms}
 use Rattle.image.specs.Image.{run_of, kept_vectors, float_segments, floats_of, path_of, Rest, image}
-use Rattle.image.specs.ImageFacts.{MarkIn, Facts, Parts}
-use Rattle.image.specs.ImageLawsPadded.{length-padded, part_padded}
-use Rattle.image.specs.ListTheorem.{Within, machine-within, list_theorem}
+use Rattle.image.proofs.ImageFacts.{MarkIn, Facts, Parts}
+use Rattle.image.proofs.ImageLawsPadded.{length-padded, part_padded}
+use Rattle.image.proofs.ListTheorem.{Within, machine-within, list_theorem}
 use Rattle.image.specs.Lists.{Held, performs}
 use Rattle.image.specs.Shown.{lengths_of, machine, Symmetric, Shown, ListShown}
 

@@ -10,7 +10,7 @@ use Rattle.binary64.specs.Arith.{◌⊕◌, ◌⊗◌}
 use Rattle.binary64.specs.Constants.{plus_zero}
 use Rattle.stretch.specs.Stretch.{part, splice, Wrote}
 use Rattle.stretch.specs.StretchLaws.{length_part, part_suc, splice_nil, get_or-splice-ahead}
-use Rattle.stretch.specs.LoopLaws.{write_step}
+use Rattle.stretch.proofs.LoopLaws.{write_step}
 use Rattle.stretch.specs.Vec.{dot_from, dot, Zips}
 
 -- ---- dot products

@@ -22,9 +22,9 @@ use Rattle.image.specs.Parts.{within, counted, field_of, norms_of, gradients_of}
 use Rattle.image.specs.Points.{points_of}
 use Rattle.image.specs.Replay.{opened}
 use Rattle.image.specs.Shown.{lengths_of, machine, ListShown, HandedOut}
-use Rattle.image.specs.Theorem.{begun, lists_from_sheet, handed_from_sheet}
+use Rattle.image.proofs.Theorem.{begun, lists_from_sheet, handed_from_sheet}
 use Rattle.records.specs.Numbers.{fits, flagged, run_from, wholes_run, reals_run}
-use Rattle.records.specs.NumberLaws.{Holds, put_holds}
+use Rattle.records.proofs.NumberLaws.{Holds, put_holds}
 use Rattle.controls.specs.Controls.{held_fault_in, fault_in, open_fault_in, unless_refused, OpenedIn, Called, start_by, counted_at, field_at, norms_at, gradients_at}
 use Rattle.controls.specs.Lists.{HeldIn, called_in, calls_in}
 

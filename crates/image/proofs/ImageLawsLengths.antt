@@ -18,12 +18,12 @@ use Rattle.pde.specs.PathLaws.{length_coordinates}
 use Rattle.model.specs.Task.{Task, vertex_count, triangle_count}
 use Rattle.model.specs.Run.{State, at, matrix_of, right_of}
 use Rattle.model.specs.Sized.{Sized, Vectors}
-use Rattle.model.specs.SizeLaws.{matrix-length, right_length}
-use Rattle.model.specs.RunLaws.{vectors_sized, gradients_sized, norms_bound, path_sized, points_bound}
+use Rattle.model.proofs.SizeLaws.{matrix-length, right_length}
+use Rattle.model.proofs.RunLaws.{vectors_sized, gradients_sized, norms_bound, path_sized, points_bound}
 use Rattle.image.specs.Image.{kept_vectors, front_segments, float_segments, floats_of, words_of, path_of, floats_used, words_used}
-use Rattle.image.specs.ImageLawsMatrix.{length_values, length_columns, length_starts, length-flat-count}
-use Rattle.image.specs.ImageLawsPadded.{length-padded}
-use Rattle.image.specs.ImageLawsSegments.{zeros, segments, Laid}
+use Rattle.image.proofs.ImageLawsMatrix.{length_values, length_columns, length_starts, length-flat-count}
+use Rattle.image.proofs.ImageLawsPadded.{length-padded}
+use Rattle.image.proofs.ImageLawsSegments.{zeros, segments, Laid}
 
 -- what a state's lists must be to stand in the buffers
 pub record Shaped (c : Task) (s : State) : Type 0 where
