@@ -5,4 +5,4 @@ use Rattle.heads.proofs.settings_from.Goals as goal
 
 pub returns : goal.returns
 unfolding settings_from
-returns c = rw (c.whole_from-room.ensures, c.real_from-y.ensures, c.real_from-x.ensures, c.real_from-step.ensures, c.real_from-tolerance.ensures, c.before.before.before.before.before.IsWhole-from.ensures)
+returns c = rw (c.whole_from-room.ensures, c.real_from-y.ensures, c.real_from-x.ensures, c.real_from-step.ensures, c.real_from-tolerance.ensures, c.whole_from-limit.ensures)

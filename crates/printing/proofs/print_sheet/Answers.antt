@@ -7,7 +7,7 @@ use borrow.Author.Rules.{rules}
 use Rattle.printing.proofs.print_sheet.Goals as goal
 
 pub returns-then-sheet-gt-SHEET : goal.returns-then-sheet-gt-SHEET
-returns-then-sheet-gt-SHEET c = long_prints _ _ c.if-sheet-gt-SHEET.true c.Put-refused.ensures
+returns-then-sheet-gt-SHEET c = long_prints _ _ c.if-sheet-gt-SHEET.true c.put_refused.ensures
 
 pub returns-then-opened-ne0 : goal.returns-then-opened-ne0
 returns-then-opened-ne0 c = refused_prints _ (as_places (buffers c.args.floats.now c.args.words.now c.args.path.now) (search rules) (search rules) (search rules)) _ c.if-sheet-gt-SHEET.false _ _ c.before.before.before.before.before.«open».ensures c.if-opened-ne0.true c.put_refused-then-opened-ne0.ensures

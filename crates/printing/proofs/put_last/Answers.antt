@@ -10,7 +10,7 @@ put_refused-requires c = omega (arith, c.requires.fits)
 pub returns-then-answer-ne0 : goal.returns-then-answer-ne0
 returns-then-answer-ne0 c =
     let done = c.advance-answer.ensures in
-    record { text = printed_as _ c.before.before.Put-refused.ensures (last_refused _ _ _ done.said c.if-answer-ne0.true); held = done.held }
+    record { text = printed_as _ c.put_refused.ensures (last_refused _ _ _ done.said c.if-answer-ne0.true); held = done.held }
 
 pub returns : goal.returns
 returns c =
