@@ -6,68 +6,82 @@ mod rows;
 mod tables;
 
 use rows::Function;
+use std::io;
 
 // Writes a function's line, and answers whether all of its rows agree and all those before did.
-fn replay(before: bool, function: Function, name: &[u8], table: &[u64]) -> bool {
+fn replay(
+    rt: &impl Print,
+    before: bool,
+    function: Function,
+    name: &str,
+    table: &[u64],
+) -> io::Result<bool> {
     let width = rows::width(function);
     let all = table.len() / width;
     let agree = rows::agreeing(function, width, table);
-    io::write_all(1, name);
-    io::write_all(1, b" ");
-    io::print_decimal(1, agree as u64);
-    io::write_all(1, b" of ");
-    io::print_decimal(1, all as u64);
-    io::write_all(1, b"\n");
-    before && agree == all
+    println!(rt; "{name} {agree} of {all}")?;
+    Ok(before && agree == all)
 }
 
-fn replay_numbers() -> bool {
-    let mut all = replay(true, Function::Sqrt, b"sqrt", &tables::SQRT);
-    all = replay(all, Function::Abs, b"abs", &tables::ABS);
-    all = replay(all, Function::Clamp, b"clamp", &tables::CLAMP);
-    all = replay(all, Function::AtLeast, b"at_least", &tables::AT_LEAST);
-    replay(all, Function::CeilCount, b"ceil_count", &tables::CEIL_COUNT)
+fn replay_numbers(rt: &impl Print) -> io::Result<bool> {
+    let mut all = replay(rt, true, Function::Sqrt, "sqrt", &tables::SQRT)?;
+    all = replay(rt, all, Function::Abs, "abs", &tables::ABS)?;
+    all = replay(rt, all, Function::Clamp, "clamp", &tables::CLAMP)?;
+    all = replay(rt, all, Function::AtLeast, "at_least", &tables::AT_LEAST)?;
+    replay(
+        rt,
+        all,
+        Function::CeilCount,
+        "ceil_count",
+        &tables::CEIL_COUNT,
+    )
 }
 
-fn replay_plane(before: bool) -> bool {
-    let mut all = replay(before, Function::Dot, b"dot", &tables::DOT);
+fn replay_plane(rt: &impl Print, before: bool) -> io::Result<bool> {
+    let mut all = replay(rt, before, Function::Dot, "dot", &tables::DOT)?;
     all = replay(
+        rt,
         all,
         Function::LengthSquared,
-        b"length_squared",
+        "length_squared",
         &tables::LENGTH_SQUARED,
-    );
-    all = replay(all, Function::Sign, b"sign", &tables::SIGN);
+    )?;
+    all = replay(rt, all, Function::Sign, "sign", &tables::SIGN)?;
     all = replay(
+        rt,
         all,
         Function::PointInTriangle,
-        b"point_in_triangle",
+        "point_in_triangle",
         &tables::POINT_IN_TRIANGLE,
-    );
+    )?;
     all = replay(
+        rt,
         all,
         Function::Ray,
-        b"get_ray_line_intersection",
+        "get_ray_line_intersection",
         &tables::GET_RAY_LINE_INTERSECTION,
-    );
+    )?;
     all = replay(
+        rt,
         all,
         Function::Weights,
-        b"get_barycentric_weights",
+        "get_barycentric_weights",
         &tables::GET_BARYCENTRIC_WEIGHTS,
-    );
+    )?;
     replay(
+        rt,
         all,
         Function::Interpolate,
-        b"barycentric_interpolate",
+        "barycentric_interpolate",
         &tables::BARYCENTRIC_INTERPOLATE,
     )
 }
 
-fn main() {
-    if replay_plane(replay_numbers()) {
-        io::write_all(1, b"all agree\n");
+fn main(rt: HostRuntime) -> io::Result<()> {
+    let numbers = replay_numbers(&rt)?;
+    if replay_plane(&rt, numbers)? {
+        println!(rt; "all agree")
     } else {
-        io::write_all(1, b"some differ\n");
+        println!(rt; "some differ")
     }
 }
