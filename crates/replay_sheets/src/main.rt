@@ -7,63 +7,69 @@ mod sheets;
 mod tables;
 
 use sheets::Counts;
+use std::io;
 
 // Writes a line, and answers whether all agree and all those before did.
-fn line(before: bool, word: &[u8], answer: u32, counts: Counts) -> bool {
-    io::write_all(1, word);
-    io::print_decimal(1, answer as u64);
-    io::write_all(1, b": ");
-    io::print_decimal(1, counts.agree as u64);
-    io::write_all(1, b" of ");
-    io::print_decimal(1, counts.all as u64);
-    io::write_all(1, b"\n");
-    before && counts.agree == counts.all
+fn line(
+    rt: &impl Print,
+    before: bool,
+    word: &str,
+    answer: u32,
+    counts: Counts,
+) -> io::Result<bool> {
+    let agree = counts.agree;
+    let all = counts.all;
+    println!(rt; "{word} {answer}: {agree} of {all}")?;
+    Ok(before && agree == all)
 }
 
-fn read(before: bool, answer: u32) -> bool {
+fn read(rt: &impl Print, before: bool, answer: u32) -> io::Result<bool> {
     line(
+        rt,
         before,
-        b"read ",
+        "read",
         answer,
         sheets::replayed(&tables::SHEETS, answer),
     )
 }
 
-fn written(before: bool, answer: u32) -> bool {
+fn written(rt: &impl Print, before: bool, answer: u32) -> io::Result<bool> {
     line(
+        rt,
         before,
-        b"written ",
+        "written",
         answer,
         contents::replayed(&tables::WRITES, answer),
     )
 }
 
-fn replay_sheets() -> bool {
-    let mut all = read(true, 0);
-    all = read(all, 1);
-    all = read(all, 2);
-    all = read(all, 3);
-    all = read(all, 4);
-    all = read(all, 5);
-    all = read(all, 6);
-    read(all, 7)
+fn replay_sheets(rt: &impl Print) -> io::Result<bool> {
+    let mut all = read(rt, true, 0)?;
+    all = read(rt, all, 1)?;
+    all = read(rt, all, 2)?;
+    all = read(rt, all, 3)?;
+    all = read(rt, all, 4)?;
+    all = read(rt, all, 5)?;
+    all = read(rt, all, 6)?;
+    read(rt, all, 7)
 }
 
 // A content that is refused by 1 there is none, and one that is refused by 2 is too long for a list.
-fn replay_contents(before: bool) -> bool {
-    let mut all = written(before, 0);
-    all = written(all, 3);
-    all = written(all, 4);
-    all = written(all, 5);
-    all = written(all, 6);
-    all = written(all, 7);
-    written(all, 8)
+fn replay_contents(rt: &impl Print, before: bool) -> io::Result<bool> {
+    let mut all = written(rt, before, 0)?;
+    all = written(rt, all, 3)?;
+    all = written(rt, all, 4)?;
+    all = written(rt, all, 5)?;
+    all = written(rt, all, 6)?;
+    all = written(rt, all, 7)?;
+    written(rt, all, 8)
 }
 
-fn main() {
-    if replay_contents(replay_sheets()) {
-        io::write_all(1, b"all agree\n");
+fn main(rt: HostRuntime) -> io::Result<()> {
+    let sheets = replay_sheets(&rt)?;
+    if replay_contents(&rt, sheets)? {
+        println!(rt; "all agree")
     } else {
-        io::write_all(1, b"some differ\n");
+        println!(rt; "some differ")
     }
 }

@@ -2,7 +2,6 @@
 -- The measure is what is left of the table. Assumes nothing.
 use Prim.Native.Nat.{◌≤◌, ◌-◌}
 use lib.ListN.{length}
-use borrow.Author.Rules.{rules}
 use Rattle.replay_numbers.proofs.rows.agreeing.Given as goal
 
 abbrev pub invariant-loop-at : goal.invariant-loop-at

@@ -4,7 +4,6 @@ use mathlib.Core.Bool.{Bool, true, not}
 use lib.Dec.{T}
 use lib.Ieee.{Float, nan, inf, fin, binary64, is_nan, of_bits, div}
 use lib.Ieee.Bits.{nan_bits_is, nan_bits_above}
-use borrow.Author.Rules.{rules}
 use borrow.Author.Tests.{lt-ltb, le-ltb}
 use Rattle.replay_numbers.proofs.rows.number.Goals as goal
 

@@ -3,7 +3,6 @@ use mathlib.Core.Path.{◌≡◌, subst}
 use mathlib.Core.Bool.{false, not}
 use lib.Dec.{T}
 use lib.Ieee.{Float, nan, inf, fin, is_nan, ne}
-use borrow.Author.Rules.{rules}
 use Rattle.replay_numbers.proofs.rows.pattern.Goals as goal
 
 no_nan : (x : Float) → ne x x ≡ false → T (not (is_nan x))

@@ -1,8 +1,6 @@
 -- `contents::replayed` is safe and ends. The invariant: `at` is within the table, and no more rows agree, or have the answer, than numbers were passed. Assumes nothing.
 use Prim.Native.Nat.{◌≤◌, ◌-◌}
-use native.Mathlib.Omega.{arith}
 use lib.ListN.{length}
-use borrow.Author.Rules.{rules}
 use Rattle.replay_sheets.proofs.contents.replayed.Given as goal
 
 abbrev pub invariant-loop-at : goal.invariant-loop-at

@@ -1,7 +1,6 @@
 -- `contents::starts` is safe and ends: what is left of the shorter list gets shorter. Assumes nothing.
 use Prim.Native.Nat.{◌≤◌, ◌-◌}
 use lib.ListN.{length}
-use borrow.Author.Rules.{rules}
 use Rattle.replay_sheets.proofs.contents.starts.Given as goal
 
 abbrev pub invariant-loop-i : goal.invariant-loop-i
