@@ -8,7 +8,7 @@ use Rattle.advancing.proofs.passes_fault.Goals as goal
 
 pub returns-then-not-over : goal.returns-then-not-over
 returns-then-not-over c =
-    gain-fits _ _ _ _ _ c.args.run.passes (sym c.over.ensures ∙ not-true _ c.if-not-over.true)
+    gain-fits _ _ _ _ _ c.args.run.passes (sym c.over.ensures ∙ c.if-not-over.true)
 
 pub returns-then-over : goal.returns-then-over
 returns-then-over c =

@@ -8,14 +8,14 @@ use Rattle.controls.proofs.held_fault.Goals as goal
 
 pub returns-then-not-fits : goal.returns-then-not-fits
 unfolding fits
-returns-then-not-fits c = unfit _ _ _ (sym c.fits.ensures ∙ not-true _ c.if-not-fits.true)
+returns-then-not-fits c = unfit _ _ _ (sym c.fits.ensures ∙ c.if-not-fits.true)
 
 pub returns-then-flagged : goal.returns-then-flagged
 unfolding fits
 returns-then-flagged c =
-    c.held_fault-early.ensures ∙ rw c.run_from-run.ensures (sound _ _ _ (sym c.fits.ensures ∙ not-false _ c.if-not-fits.false) (sym c.flagged.ensures ∙ c.if-flagged.true))
+    c.held_fault-early.ensures ∙ rw c.run_from-run.ensures (sound _ _ _ (sym c.fits.ensures ∙ c.if-not-fits.false) (sym c.flagged.ensures ∙ c.if-flagged.true))
 
 pub returns : goal.returns
 unfolding fits
 returns c =
-    c.flag_fault.ensures ∙ unflagged _ _ _ (sym c.fits.ensures ∙ not-false _ c.if-not-fits.false) (sym c.flagged.ensures ∙ c.if-flagged.false) _ (c.held_fault-early.ensures ∙ rw c.run_from-run.ensures)
+    c.flag_fault.ensures ∙ unflagged _ _ _ (sym c.fits.ensures ∙ c.if-not-fits.false) (sym c.flagged.ensures ∙ c.if-flagged.false) _ (c.held_fault-early.ensures ∙ rw c.run_from-run.ensures)
