@@ -220,8 +220,16 @@ fn changes(base: &[u8], sheet: &[u8]) -> Vec<u32> {
 
 fn table<T: std::fmt::Display>(name: &str, of: &str, all: &[T]) {
     println!("pub const {name}: [{of}; {}] = [", all.len());
-    all.iter().for_each(|x| println!("    {x},"));
-    println!("];");
+    let mut line = String::from("   ");
+    for x in all {
+        let word = format!(" {x},");
+        if line.len() + word.len() > 99 {
+            println!("{line}");
+            line.truncate(3);
+        }
+        line.push_str(&word);
+    }
+    println!("{line}\n];");
 }
 
 /// Prints the list as the tables of a Rattle program, in the layout of rt fmt.
