@@ -3,35 +3,34 @@
 
 use format::{Real, Settings, Whole};
 use sheet::Written;
+use std::io;
 
 // The text's first bytes, and how many it has.
-fn print_front(text: &[u8], line: usize) {
+fn print_front(rt: &impl Print, text: &[u8], line: usize) -> io::Result<()> {
     if text.len() < line {
-        return;
+        return Ok(());
     }
-    io::write_all(1, &text[..line]);
-    io::write_all(1, b" ");
-    io::print_decimal(1, text.len() as u64);
-    io::write_all(1, b"\n");
+    rt.write_all(&text[..line])?;
+    println!(rt; " {}", text.len())
 }
 
 // The first line has nine bytes: no place here is above 9.
-fn print_of(sheet: &[u8]) {
+fn print_of(rt: &impl Print, sheet: &[u8]) -> io::Result<()> {
     let mut out = [0u8; printing::TEXT];
     let mut floats = [0.0; printing::FLOATS];
     let mut words = [0u32; printing::WORDS];
     let mut path = [0.0; printing::PATH];
     let end = printing::print_sheet(sheet, &mut floats, &mut words, &mut path, &mut out);
-    print_front(&out[..end], 9);
+    print_front(rt, &out[..end], 9)
 }
 
 // So many bytes, all the same.
-fn print_same(byte: u8, count: usize) {
+fn print_same(rt: &impl Print, byte: u8, count: usize) -> io::Result<()> {
     let sheet = [byte; 65537];
     if 65537 < count {
-        return;
+        return Ok(());
     }
-    print_of(&sheet[..count]);
+    print_of(rt, &sheet[..count])
 }
 
 // A step of 1, a start at (0, 0).
@@ -81,15 +80,15 @@ fn write(
     )
 }
 
-fn print_first(sheet: &[u8], count: usize) {
+fn print_first(rt: &impl Print, sheet: &[u8], count: usize) -> io::Result<()> {
     if sheet.len() < count {
-        return;
+        return Ok(());
     }
-    print_of(&sheet[..count]);
+    print_of(rt, &sheet[..count])
 }
 
 // A sheet of n vertices, all at (0, 0) and free, and of t triangles, all of the first vertex.
-fn print_counts(n: usize, t: usize, limit: u64, room: u64) {
+fn print_counts(rt: &impl Print, n: usize, t: usize, limit: u64, room: u64) -> io::Result<()> {
     let vertices = [0.0; 1362];
     let corners = [0u32; 1533];
     let neighbours = [4294967295u32; 1533];
@@ -107,28 +106,28 @@ fn print_counts(n: usize, t: usize, limit: u64, room: u64) {
         &mut sheet,
     );
     match written {
-        Written::Bytes(k) => print_first(&sheet, k),
-        Written::Refused(k) => print_first(&sheet, 0),
+        Written::Bytes(k) => print_first(rt, &sheet, k),
+        Written::Refused(k) => print_first(rt, &sheet, 0),
     }
 }
 
-fn main() {
+fn main(rt: HostRuntime) -> io::Result<()> {
     // 12 n + 12 t + limit + 32 floats: 8,192, and more
-    print_counts(680, 0, 0, 1);
-    print_counts(680, 0, 1, 1);
-    print_counts(681, 0, 0, 1);
-    print_counts(0, 0, 8160, 1);
-    print_counts(0, 0, 8161, 1);
+    print_counts(&rt, 680, 0, 0, 1)?;
+    print_counts(&rt, 680, 0, 1, 1)?;
+    print_counts(&rt, 681, 0, 0, 1)?;
+    print_counts(&rt, 0, 0, 8160, 1)?;
+    print_counts(&rt, 0, 0, 8161, 1)?;
     // 8 n + 32 t + 32 whole numbers: 16,384, and more
-    print_counts(4, 510, 0, 1);
-    print_counts(5, 510, 0, 1);
-    print_counts(4, 511, 0, 1);
+    print_counts(&rt, 4, 510, 0, 1)?;
+    print_counts(&rt, 5, 510, 0, 1)?;
+    print_counts(&rt, 4, 511, 0, 1)?;
     // 4,096 points, and one more
-    print_counts(0, 0, 0, 4096);
-    print_counts(0, 0, 0, 4097);
+    print_counts(&rt, 0, 0, 0, 4096)?;
+    print_counts(&rt, 0, 0, 0, 4097)?;
     // 65,536 bytes, and one more: five counts of 0 and bytes left over; a count over its limit
-    print_same(0, 65536);
-    print_same(0, 65537);
-    print_same(255, 65536);
-    print_same(255, 65537);
+    print_same(&rt, 0, 65536)?;
+    print_same(&rt, 0, 65537)?;
+    print_same(&rt, 255, 65536)?;
+    print_same(&rt, 255, 65537)
 }

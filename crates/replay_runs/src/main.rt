@@ -6,7 +6,9 @@
 mod digest;
 mod lines;
 
-ghost use Rattle.std.specs.Prelude.{◌≡◌, ◌≤◌, length};
+ghost use Rattle.std.specs.Prelude.{◌≡◌, ◌≤◌, IfOk, length};
+
+use std::io;
 
 // The numbers of the calls; 0 beyond them.
 fn read_calls(bytes: &[u8], calls: &mut [u32]) {
@@ -16,36 +18,35 @@ fn read_calls(bytes: &[u8], calls: &mut [u32]) {
 }
 
 // On buffers that suffice for small sheets.
-fn replay(sheet: &[u8], calls: &[u32], count: usize) {
+fn replay(rt: &impl Print, sheet: &[u8], calls: &[u32], count: usize) -> io::Result<()> {
     let mut said = [0u32; 40];
     let mut floats = [0.0; 4096];
     let mut words = [0u32; 4096];
     let mut path = [0.0; 1024];
     let opened = run::replay(sheet, calls, &mut said, &mut floats, &mut words, &mut path);
     if opened.refused != 0 {
-        lines::refused(opened.refused);
-        return;
+        return lines::refused(rt, opened.refused);
     }
     let r = opened.run;
-    lines::opened(r, &said, count, &floats, &path);
+    lines::opened(rt, r, &said, count, &floats, &path)
 }
 
 // At most 40 calls.
-fn replay_calls(sheet: &[u8], calls: &[u32], count: usize) {
+fn replay_calls(rt: &impl Print, sheet: &[u8], calls: &[u32], count: usize) -> io::Result<()> {
     if 40 < count {
-        return;
+        return Ok(());
     }
     let numbers = 6 * count;
     if calls.len() < numbers {
-        return;
+        return Ok(());
     }
-    replay(sheet, &calls[..numbers], count);
+    replay(rt, sheet, &calls[..numbers], count)
 }
 
-fn replay_one(sheet: &[u8], bytes: &[u8], count: usize) {
+fn replay_one(rt: &impl Print, sheet: &[u8], bytes: &[u8], count: usize) -> io::Result<()> {
     let mut calls = [0u32; 240];
     read_calls(bytes, &mut calls);
-    replay_calls(sheet, &calls, count);
+    replay_calls(rt, sheet, &calls, count)
 }
 
 fn size(x: u32) -> usize {
@@ -53,33 +54,34 @@ fn size(x: u32) -> usize {
 }
 
 // The sheet at the front of the input and its calls. Answers how many bytes they take: 0 where the input ends before they do.
-fn next(input: &[u8]) -> usize
-    ensures { result ≤ length input.now }
+fn next(rt: &impl Print, input: &[u8]) -> io::Result<usize>
+    ensures { IfOk result (λ taken. taken ≤ length input.now) }
 {
     let bytes = size(sheet::items::corner(input, 0));
     if input.len() < 8 {
-        return 0;
+        return Ok(0);
     }
     if input.len() - 8 < bytes {
-        return 0;
+        return Ok(0);
     }
     let from = bytes + 4;
     let count = size(sheet::items::corner(&input[from..], 0));
     let calls = bytes + 8;
     if (input.len() - calls) / 24 < count {
-        return 0;
+        return Ok(0);
     }
     let end = calls + 24 * count;
-    replay_one(&input[4..from], &input[calls..end], count);
-    end
+    replay_one(rt, &input[4..from], &input[calls..end], count)?;
+    Ok(end)
 }
 
 // At most 1,000 sheets.
-fn replay_all(input: &[u8]) {
+fn replay_all(rt: &impl Print, input: &[u8]) -> io::Result<()> {
     let mut at: usize = 0;
     for i in 0..1000usize {
-        at += next(&input[at..]);
+        at += next(rt, &input[at..])?;
     }
+    Ok(())
 }
 
 // Zeros, by their number alone.
@@ -89,8 +91,8 @@ fn space() -> [u8; 163840]
     [0u8; 163840]
 }
 
-fn main() {
+fn main(rt: HostRuntime) -> io::Result<()> {
     let mut input = space();
-    let got = io::read_full(0, &mut input);
-    replay_all(&input[..got]);
+    let got = reading::read_full(&mut rt.stdin(), &mut input)?;
+    replay_all(&rt, &input[..got])
 }

@@ -1,6 +1,8 @@
 // Document 01's printing program.
 #![tactic(auto)]
 
-fn main() {
-    stream::print_input();
+use std::io;
+
+fn main(rt: HostRuntime) -> io::Result<()> {
+    stream::print_input(&rt)
 }
