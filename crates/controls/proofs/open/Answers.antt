@@ -12,8 +12,8 @@ returns-then-not-fits c = open_unfit _ _ _ _ (sym c.fits.ensures ∙ c.if-not-fi
 
 pub returns-then-opened-ne0 : goal.returns-then-opened-ne0
 unfolding fits
-returns-then-opened-ne0 c = open_refused _ _ _ _ (sym c.fits.ensures ∙ c.if-not-fits.false) c.before.before.before.before.before.before.before.before.«open».ensures c.if-opened-ne0.true
+returns-then-opened-ne0 c = open_refused _ _ _ _ (sym c.fits.ensures ∙ c.if-not-fits.false) c.open-opened.ensures c.if-opened-ne0.true
 
 pub returns : goal.returns
 unfolding fits
-returns c = open_made _ _ _ _ (sym c.fits.ensures ∙ c.if-not-fits.false) c.before.before.before.before.before.before.before.before.before.before.before.before.before.before.before.before.«open».ensures c.if-opened-ne0.false _ _ c.put_run.ensures.0 c.put_run.ensures.1
+returns c = open_made _ _ _ _ (sym c.fits.ensures ∙ c.if-not-fits.false) c.open-opened.ensures c.if-opened-ne0.false _ _ c.put_run.ensures.0 c.put_run.ensures.1
