@@ -15,22 +15,37 @@ fn print_front(rt: &impl Print, text: &[u8], line: usize) -> io::Result<()> {
 }
 
 // The first line has nine bytes: no place here is above 9.
+fn print_lent(
+    rt: &impl Print,
+    sheet: &[u8],
+    floats: &mut [f64; printing::FLOATS],
+    words: &mut [u32; printing::WORDS],
+    path: &mut [f64; printing::PATH],
+    out: &mut [u8; printing::TEXT],
+) -> io::Result<()> {
+    let end = printing::print_sheet(sheet, floats, words, path, out);
+    print_front(rt, &out[..end], 9)
+}
+
 fn print_of(rt: &impl Print, sheet: &[u8]) -> io::Result<()> {
     let mut out = [0u8; printing::TEXT];
     let mut floats = [0.0; printing::FLOATS];
     let mut words = [0u32; printing::WORDS];
     let mut path = [0.0; printing::PATH];
-    let end = printing::print_sheet(sheet, &mut floats, &mut words, &mut path, &mut out);
-    print_front(rt, &out[..end], 9)
+    print_lent(rt, sheet, &mut floats, &mut words, &mut path, &mut out)
+}
+
+fn print_first(rt: &impl Print, sheet: &[u8], count: usize) -> io::Result<()> {
+    if sheet.len() < count {
+        return Ok(());
+    }
+    print_of(rt, &sheet[..count])
 }
 
 // So many bytes, all the same.
 fn print_same(rt: &impl Print, byte: u8, count: usize) -> io::Result<()> {
     let sheet = [byte; 65537];
-    if 65537 < count {
-        return Ok(());
-    }
-    print_of(rt, &sheet[..count])
+    print_first(rt, &sheet, count)
 }
 
 // A step of 1, a start at (0, 0).
@@ -78,13 +93,6 @@ fn write(
         set,
         out,
     )
-}
-
-fn print_first(rt: &impl Print, sheet: &[u8], count: usize) -> io::Result<()> {
-    if sheet.len() < count {
-        return Ok(());
-    }
-    print_of(rt, &sheet[..count])
 }
 
 // A sheet of n vertices, all at (0, 0) and free, and of t triangles, all of the first vertex.
