@@ -1,5 +1,5 @@
 -- Laws of a text at the front of the lent bytes, and of an input of which no more is read than tells whether it is too long. Assumes nothing.
-use Rattle.std.proofs.Common.{◌≡◌, ℕ, ◌+◌, ◌≤◌, ◌<◌, List, [], ◌++◌, length, take, drop, Result, Ok, Err, None, Some, IfSome, OnOk, arith, refl, sym, ap, ◌∙◌, ⊎_elim, length-append, length-take-le}
+use Rattle.std.proofs.Common.{◌≡◌, ℕ, ◌+◌, ◌≤◌, ◌<◌, List, ◌++◌, length, take, drop, Result, Ok, Err, None, Some, IfSome, OnOk, arith, sym, ap, ◌∙◌, ⊎_elim, length-append, length-take-le}
 use Rattle.std.proofs.lemmas.List.{append-nil, take-append-le, take_all}
 use Rattle.std.proofs.Math.Nat.{eq-or-lt_of_le}
 use Rattle.std.specs.declared.option.Option.{Option}
@@ -37,6 +37,7 @@ read_suffices (Some xs) (Some ys) space got one within taken ended =
         let front : length (take got space) ≡ got = length-take-le got space within in
         let all : length xs ≡ length (take got space) + length ys = ap length taken ∙ length-append (take got space) ys in
         long_refused (take got space) (omega arith) ∙ sym (long_refused xs (omega arith))
+
     whole : got < most_bytes + 1 → printed (take got space) ≡ printed xs
     whole h = ap printed (sym (taken ∙ ap (λ l. take got space ++ l) (ended (omega arith)) ∙ append-nil (take got space)))
 

@@ -1,5 +1,5 @@
 -- `write_text` meets its contract: what is written is the text's bytes. Assumes nothing.
-use Rattle.std.proofs.Common.{◌≡◌, ℕ, List, OnOk, take, subst, rules}
+use Rattle.std.proofs.Common.{ℕ, List, OnOk, subst}
 use Rattle.std.specs.Io.KnownBytes.{Appends}
 use Rattle.stream.proofs.Laws.{text_front}
 use Rattle.stream.proofs.write_text.Goals as goal
