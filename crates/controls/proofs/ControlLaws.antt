@@ -15,7 +15,7 @@ use Rattle.work.specs.declared.Plan.{Plan}
 use Rattle.work.specs.declared.Run.{Run}
 use Rattle.work.specs.Layout.{at_x, at_gradients, at_norms}
 use Rattle.image.specs.Calls.{Buffers, held_fault, fault, run_after, buffers_after}
-use Rattle.image.specs.Accepted.{then_none}
+use Rattle.image.proofs.AcceptedLaws.{then_none}
 use Rattle.image.specs.CallLaws.{refused_unchanged}
 use Rattle.image.specs.Lists.{Held, front, behind, performed, performs}
 use Rattle.image.specs.Parts.{within, counted, field_of, norms_of, gradients_of}

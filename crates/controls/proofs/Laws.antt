@@ -23,7 +23,7 @@ use Rattle.work.specs.declared.Run.{Run}
 use Rattle.work.specs.Record.{no_run}
 use Rattle.image.specs.declared.Answer.{Answer}
 use Rattle.image.specs.Calls.{Buffers, held_fault, late_fault, fault, run_after, buffers_after, Does}
-use Rattle.image.specs.Accepted.{then_first, then_second, then_none}
+use Rattle.image.proofs.AcceptedLaws.{then_first, then_second, then_none}
 use Rattle.image.specs.Image.{run_of, image, rest_of}
 use Rattle.image.specs.Points.{points_of}
 use Rattle.image.specs.Replay.{Opening, opening, opened_by, opened, Opens}

@@ -11,7 +11,7 @@ use Rattle.stretch.specs.StretchLaws.{part_suc, part_zero}
 use Rattle.mesh.specs.Mesh.{no_neighbour}
 use Rattle.work.specs.declared.Run.{Run}
 use Rattle.image.specs.Calls.{Buffers, unless10, counts_fault, space_fault, stand_sound, mark_sound, all_none_or_below, words_sound, held_fault}
-use Rattle.image.specs.Accepted.{then_first, then_second}
+use Rattle.image.proofs.AcceptedLaws.{then_first, then_second}
 
 -- ---- a scan of neighbours
 

@@ -1,6 +1,6 @@
 -- Whatever the record's scalars and the buffers hold within the ranges that the calls check: passes, the way to another place and a mark keep the lengths of floats and path, and all that lies past the places used.
 -- Assumes nothing.
-use Rattle.std.specs.Prelude.{ℕ, ◌+◌, ◌-◌, ◌*◌, ◌≤◌, ◌≡◌, Bool, List, [], ◌∷◌, ◌++◌, eqb, length, drop, Float}
+use Rattle.std.specs.Prelude.{ℕ, ◌+◌, ◌*◌, ◌≤◌, ◌≡◌, Bool, List, [], ◌∷◌, ◌++◌, eqb, length, drop, Float}
 use Rattle.std.proofs.Math.Path.{refl}
 use Rattle.std.proofs.Common.{sym, ap, ◌∙◌, length-take, drop-drop}
 use Rattle.std.proofs.Math.Bool.{true, false}

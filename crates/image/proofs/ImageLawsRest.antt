@@ -29,7 +29,8 @@ use Rattle.work.specs.declared.Run.{Run}
 use Rattle.work.specs.Layout.{at_right, at_x, at_r, at_p, at_product, at_kept, at_gradients, at_norms, matrix_at}
 use Rattle.work.specs.Memory.{Work, once, goes, from_mark, origin_of, path_erased, begun_again, to_started, to_solved, to_kept, to_zero, from_origin, seek, kept_floats}
 use Rattle.work.specs.StartedLaws.{started_stand, started_path}
-use Rattle.image.specs.Accepted.{Accepted, accepted, then_none}
+use Rattle.image.specs.Accepted.{Accepted}
+use Rattle.image.proofs.AcceptedLaws.{accepted, then_none}
 use Rattle.image.specs.Calls.{Buffers, buffers, held_fault, work_of, gone, late_fault, fault, buffers_after}
 use Rattle.image.specs.CallLaws.{and_true}
 use Rattle.image.proofs.ImageLawsSegments.{zeros}

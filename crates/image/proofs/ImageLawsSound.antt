@@ -19,7 +19,6 @@ use Rattle.model.specs.Task.{Task, vertex_count, triangle_count}
 use Rattle.model.specs.Space.{factor, farthest}
 use Rattle.model.specs.Run.{at, matrix_of, last_place}
 use Rattle.model.specs.Sized.{Sized}
-use Rattle.model.proofs.SizeLaws.{sized}
 use Rattle.model.proofs.RunLaws.{crossings_left, crossings_bound, last_bound, norms_some, norms_below, norms_bound, points_bound, walk_triangle, walk_zero_or_below, walk_edge, field_end_bound, path_end_bound}
 use Rattle.image.specs.Calls.{triangle_sound, stand_sound, mark_sound, all_none_or_below, words_sound}
 use Rattle.image.specs.CallLaws.{and_true, both}

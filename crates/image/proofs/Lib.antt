@@ -1,3 +1,5 @@
+pub mod AcceptedLaws
+pub mod ExitLaws
 pub mod ImageFacts
 pub mod ImageLawsDry
 pub mod ImageLawsGoes

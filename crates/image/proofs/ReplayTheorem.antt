@@ -13,7 +13,7 @@ use Rattle.model.specs.Run.{last_place}
 use Rattle.model.specs.Sized.{Sized}
 use Rattle.model.specs.Machine.{Space, fresh, needs, short}
 use Rattle.work.specs.declared.Run.{Run}
-use Rattle.image.specs.Accepted.{pick_eight}
+use Rattle.image.proofs.AcceptedLaws.{pick_eight}
 use Rattle.work.specs.Record.{no_run}
 use Rattle.image.specs.declared.Answer.{Answer}
 use Rattle.image.specs.Calls.{Buffers, answered}

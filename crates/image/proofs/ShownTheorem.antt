@@ -1,9 +1,8 @@
 -- What the record and the buffers show after every list of calls: all that document 01 compares is as in the uninterrupted run where the counter machine stands.
 -- It takes of the image what `Facts` and `Parts` state. Assumes nothing.
 use Rattle.std.specs.Prelude.{ℕ, zero, suc, ◌+◌, ◌-◌, ◌*◌, ◌≤◌, ◌<◌, ◌≡◌, refl, List, [], ◌∷◌, ◌++◌, get_or, Float}
-use Rattle.std.proofs.Common.{sym, ◌∙◌, ⊎_elim, eq-or-lt_of_le, length-append}
+use Rattle.std.proofs.Common.{sym, ◌∙◌, ⊎_elim, eq-or-lt_of_le}
 use Rattle.std.proofs.Math.Path.{ap}
-use Rattle.std.proofs.Math.Option.{Option, none, some}
 use native.Mathlib.Omega.{arith}
 use Rattle.std.proofs.Math.ListN.{length, replicate, length-replicate, get_or-append}
 use Rattle.std.proofs.lemmas.List.{get_or_at}
@@ -22,8 +21,8 @@ use Rattle.model.specs.Sized.{Sized}
 use Rattle.model.specs.Run.{at, matrix_of, last_place}
 use Rattle.model.specs.Machine.{Counter, fresh, Lent}
 use Rattle.work.specs.Layout.{at_x, at_gradients, at_norms}
-use Rattle.image.specs.Image.{run_of, kept_vectors, float_segments, floats_of, path_of, Rest, image}
-use Rattle.image.proofs.ImageFacts.{MarkIn, Facts, Parts}
+use Rattle.image.specs.Image.{run_of, float_segments, floats_of, path_of, Rest, image}
+use Rattle.image.proofs.ImageFacts.{Facts, Parts}
 use Rattle.image.proofs.ImageLawsPadded.{length-padded, part_padded}
 use Rattle.image.proofs.ListTheorem.{Within, machine-within, list_theorem}
 use Rattle.image.specs.Lists.{Held, performs}

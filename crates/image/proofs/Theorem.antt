@@ -1,7 +1,6 @@
 -- Demand 3 (document 01, Counter machine), with nothing left to assume: what every list of calls leaves, said of a task, of a sheet, and of `replay`. Assumes nothing.
-use Rattle.std.specs.Prelude.{ℕ, ◌+◌, ◌*◌, ◌≤◌, ◌≡◌, refl, Bool, true, false, List, [], eqb, length, Float}
-use Rattle.std.proofs.Common.{sym, ap, ◌∙◌, arith, eqb-true, le-leb}
-use Rattle.binary64.specs.Number.{pick}
+use Rattle.std.specs.Prelude.{ℕ, ◌+◌, ◌*◌, ◌≤◌, ◌≡◌, List, [], length, Float}
+use Rattle.std.proofs.Common.{◌∙◌, arith, le-leb}
 use Rattle.stretch.specs.Stretch.{part}
 use Rattle.pde.specs.Path.{point_floats, coordinates_of}
 use Rattle.format.specs.Bytes.{Bytes}

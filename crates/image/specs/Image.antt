@@ -1,5 +1,5 @@
 -- The record and the buffers that the uninterrupted run of a task has at a place, with a mark, a pass count and what was lent beyond the places used. Definitions only. Assumes nothing.
-use Rattle.std.specs.Prelude.{ℕ, ◌+◌, ◌-◌, ◌*◌, List, [], ◌∷◌, ◌++◌, length, replicate, drop, Float}
+use Rattle.std.specs.Prelude.{ℕ, ◌+◌, ◌*◌, List, [], ◌∷◌, ◌++◌, length, replicate, drop, Float}
 use Rattle.std.proofs.Math.Option.{Option, none, some}
 use Rattle.binary64.specs.Constants.{plus_zero}
 use Rattle.plane.specs.declared.Point.{Point}

@@ -45,7 +45,7 @@ use Rattle.work.specs.Layout.{at_gradients, at_norms, matrix_at, vectors_at}
 use Rattle.work.specs.Memory.{begun_again}
 use Rattle.work.specs.Record.{new_run, no_run}
 use Rattle.image.specs.declared.Answer.{Answer}
-use Rattle.image.specs.Accepted.{ready}
+use Rattle.image.proofs.AcceptedLaws.{ready}
 use Rattle.image.specs.Calls.{Buffers, buffers, answered}
 use Rattle.image.specs.CallLaws.{Counted, lacking, lacking_none}
 use Rattle.image.specs.Image.{plan_of, floats_of, words_of, path_of, floats_used, words_used, run_of, image}

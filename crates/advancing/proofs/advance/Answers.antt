@@ -1,7 +1,7 @@
 -- `calls::advance` meets its contract: the place sought is the definition's, the dry count is the gain, so the sum of the passes fits where it is made. Assumes nothing.
 use native.Mathlib.Omega.{arith}
 use Rattle.image.specs.Calls.{buffers}
-use Rattle.image.specs.Exits.{cleared, admitted, does_early, advance_late, advance_rises, advance_fits, advance_done, counts_of}
+use Rattle.image.proofs.ExitLaws.{cleared, admitted, does_early, advance_late, advance_rises, advance_fits, advance_done, counts_of}
 use borrow.Author.Rules.{rules}
 use Rattle.advancing.proofs.advance.Goals as goal
 

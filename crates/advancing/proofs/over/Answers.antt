@@ -1,5 +1,5 @@
 -- `calls::over` meets its contract: a difference that fits tells of a sum that may not. Assumes nothing.
-use Rattle.image.specs.Exits.{over_test}
+use Rattle.image.proofs.ExitLaws.{over_test}
 use borrow.Author.Rules.{rules}
 use Rattle.advancing.proofs.over.Goals as goal
 

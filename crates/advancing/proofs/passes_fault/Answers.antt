@@ -2,7 +2,7 @@
 use borrow.Author.Tests.{not-true}
 use mathlib.Core.Path.{sym, ◌∙◌}
 use mathlib.Core.Bool.{true, false}
-use Rattle.image.specs.Exits.{over_says, gain-fits}
+use Rattle.image.proofs.ExitLaws.{over_says, gain-fits}
 use borrow.Author.Rules.{rules}
 use Rattle.advancing.proofs.passes_fault.Goals as goal
 

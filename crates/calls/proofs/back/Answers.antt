@@ -2,7 +2,7 @@
 use Prim.Native.Nat.{◌-◌}
 use native.Mathlib.Omega.{arith}
 use Rattle.image.specs.Calls.{buffers}
-use Rattle.image.specs.Exits.{cleared, admitted, does_early, back_done}
+use Rattle.image.proofs.ExitLaws.{cleared, admitted, does_early, back_done}
 use borrow.Author.Rules.{rules}
 use Rattle.calls.proofs.back.Goals as goal
 

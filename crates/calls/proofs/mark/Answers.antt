@@ -1,7 +1,7 @@
 -- `calls::mark` meets its contract: the record and the floats are kept as the definition keeps them. Assumes nothing.
 use native.Mathlib.Omega.{arith}
 use Rattle.image.specs.Calls.{buffers}
-use Rattle.image.specs.Exits.{cleared, admitted, does_early, mark_done}
+use Rattle.image.proofs.ExitLaws.{cleared, admitted, does_early, mark_done}
 use borrow.Author.Rules.{rules}
 use Rattle.calls.proofs.mark.Goals as goal
 

@@ -1,6 +1,6 @@
 -- `calls::return_to_mark` meets its contract: the place sought is the mark's, and a return with no mark is refused after all else. Assumes nothing.
 use Rattle.image.specs.Calls.{buffers}
-use Rattle.image.specs.Exits.{cleared, admitted, does_early, return_late, return_done}
+use Rattle.image.proofs.ExitLaws.{cleared, admitted, does_early, return_late, return_done}
 use borrow.Author.Rules.{rules}
 use Rattle.calls.proofs.return_to_mark.Goals as goal
 

@@ -4,7 +4,7 @@ use borrow.Author.Rules.{rules}
 use Rattle.image.specs.Calls.{buffers}
 use Rattle.image.specs.CallLaws.{Counted, Enough, asked}
 use Rattle.image.specs.Shown.{lengths_of}
-use Rattle.image.specs.Accepted.{counted, enough}
+use Rattle.image.proofs.AcceptedLaws.{counted, enough}
 use Rattle.gate.proofs.Laws.{held_counts, held-space, held_sound}
 use Rattle.gate.proofs.held_fault.Goals as goal
 
