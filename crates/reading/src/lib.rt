@@ -23,3 +23,67 @@ pub fn read_full<R: Read>(reader: &mut R, buf: &mut [u8]) -> io::Result<usize>
     }
     Ok(done)
 }
+
+#[cfg(test)]
+mod tests {
+    use super::read_full;
+    use std::io;
+    use std::io::{Error, ErrorKind, Read};
+
+    // Gives one byte a call, and then fails.
+    #[derive(Drop)]
+    struct Faltering {
+        left: u8,
+    }
+
+    impl Read for Faltering {
+        fn read(&mut self, buf: &mut [u8]) -> io::Result<usize> {
+            if self.left == 0 {
+                return Err(Error::from(ErrorKind::Other));
+            }
+            if buf.is_empty() {
+                return Ok(0);
+            }
+            buf[0] = self.left;
+            self.left -= 1;
+            Ok(1)
+        }
+    }
+
+    #[test]
+    fn longer_input_fills_the_buffer(rt: HostRuntime) -> io::Result<()> {
+        let mut buf = [0u8; 4];
+        let mut input = b"abcdef".as_slice();
+        let got = read_full(&mut input, &mut buf)?;
+        assert_eq!(rt; got, 4);
+        assert_eq!(rt; buf, [97u8, 98, 99, 100]);
+        assert_eq!(rt; input.len(), 2);
+        Ok(())
+    }
+
+    #[test]
+    fn shorter_input_is_read_to_its_end(rt: HostRuntime) -> io::Result<()> {
+        let mut buf = [0u8; 4];
+        let mut input = b"ab".as_slice();
+        let got = read_full(&mut input, &mut buf)?;
+        assert_eq!(rt; got, 2);
+        assert_eq!(rt; buf, [97u8, 98, 0, 0]);
+        Ok(())
+    }
+
+    #[test]
+    fn a_byte_at_a_time_fills_the_buffer(rt: HostRuntime) -> io::Result<()> {
+        let mut buf = [0u8; 3];
+        let got = read_full(&mut Faltering { left: 3 }, &mut buf)?;
+        assert_eq!(rt; got, 3);
+        assert_eq!(rt; buf, [3u8, 2, 1]);
+        Ok(())
+    }
+
+    #[test]
+    fn a_failing_read_is_an_error(rt: HostRuntime) {
+        let mut buf = [0u8; 4];
+        let failed = read_full(&mut Faltering { left: 3 }, &mut buf).is_err();
+        assert!(rt; failed);
+    }
+}
