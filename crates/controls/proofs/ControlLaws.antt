@@ -17,16 +17,16 @@ use Rattle.work.specs.Layout.{at_x, at_gradients, at_norms}
 use Rattle.image.specs.Calls.{Buffers, held_fault, fault, run_after, buffers_after}
 use Rattle.image.proofs.AcceptedLaws.{then_none}
 use Rattle.image.specs.CallLaws.{refused_unchanged}
-use Rattle.image.specs.Lists.{Held, front, behind, performed, performs}
+use Rattle.image.specs.Lists.{Held, front, behind, performed, performs, begun}
 use Rattle.image.specs.Parts.{within, counted, field_of, norms_of, gradients_of}
 use Rattle.image.specs.Points.{points_of}
 use Rattle.image.specs.Replay.{opened}
 use Rattle.image.specs.Shown.{lengths_of, machine, ListShown, HandedOut}
-use Rattle.image.proofs.Theorem.{begun, lists_from_sheet, handed_from_sheet}
-use Rattle.records.specs.Numbers.{fits, flagged, run_from, wholes_run, reals_run}
-use Rattle.records.proofs.NumberLaws.{Holds, put_holds}
+use Rattle.image.proofs.Theorem.{lists_from_sheet, handed_from_sheet}
+use Rattle.records.specs.Numbers.{fits, flagged, run_from, wholes_run, reals_run, Holds}
+use Rattle.records.proofs.NumberLaws.{put_holds}
 use Rattle.controls.specs.Controls.{held_fault_in, fault_in, open_fault_in, unless_refused, OpenedIn, Called, start_by, counted_at, field_at, norms_at, gradients_at}
-use Rattle.controls.specs.Lists.{HeldIn, called_in, calls_in}
+use Rattle.controls.specs.Lists.{HeldIn, called_in, calls_in, begun_in, held_of, Follows}
 
 -- ---- one call
 
@@ -58,12 +58,6 @@ module _ (r : Run) (ns : List ℕ) (xs : List Float) (h : Holds r ns xs) where
       go (suc k) e = rw (ne_eqb (suc k) 0 (λ z. omega (arith, z))) (sym (refused_unchanged c r b (λ z. omega (arith, e, z))).1)
 
 -- ---- a list of calls
-
--- the lists hold the record, and all else is the same
-pub record Follows (h : Held) (n : HeldIn) : Type 0 where
-  pub holds : Holds h.run n.wholes n.reals
-  pub all : n.all ≡ h.all
-  pub said : n.said ≡ h.said
 
 called_follows : (l : Lent) (h : Held) (n : HeldIn) → Follows h n → Follows (performed l h) (called_in l n)
 unfolding performed called_in
@@ -98,10 +92,6 @@ pub called_is : (l : Lent) (h : HeldIn) (r : ℕ) (ns' : List ℕ) (xs' : List F
 unfolding called_in
 called_is l h r ns' xs' b' c = rw (c.said, c.wholes, c.reals, c.held)
 
--- the numbers and the buffers of an opened sheet
-abbrev pub begun_in : List ℕ → List ℕ → List Float → Buffers → HeldIn
-begun_in sheet ns xs b = record { wholes = wholes_run (opened sheet b).answer.run ns; reals = reals_run (opened sheet b).answer.run xs; all = (opened sheet b).all; said = [] }
-
 -- an opening as its contract (`OpenedIn`) leaves it, where it is not refused
 pub opened_is : (sheet ns : List ℕ) (xs : List Float) (b : Buffers) (ns' : List ℕ) (xs' : List Float) (b' : Buffers) → OpenedIn sheet ns xs b 0 ns' xs' b'
     → (open_fault_in sheet ns xs b ≡ 0) × (record { wholes = ns'; reals = xs'; all = b'; said = [] } ≡ begun_in sheet ns xs b)
@@ -113,10 +103,6 @@ opened_is sheet ns xs b ns' xs' b' o =
     (e, rw (p, q, s))
 
 -- ---- demand 3 under C names
-
--- what the numbers stand for
-abbrev pub held_of : HeldIn → Held
-held_of n = record { run = run_from n.wholes n.reals; all = n.all; said = n.said }
 
 follows_is : (h : Held) (n : HeldIn) → Follows h n → held_of n ≡ h
 follows_is h n f = rw (f.holds.reads, f.all, f.said)

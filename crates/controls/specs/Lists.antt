@@ -1,10 +1,11 @@
 -- A list of calls on the numbers of a record, each handed what the last left, and lent the front of each buffer. Definitions only. Assumes nothing.
-use Rattle.std.specs.Prelude.{ℕ, List, [], ◌∷◌, ◌++◌, Float}
+use Rattle.std.specs.Prelude.{ℕ, List, [], ◌∷◌, ◌++◌, Float, ◌≡◌}
 use Rattle.model.specs.Machine.{Lent}
 use Rattle.image.specs.Calls.{Buffers, run_after, buffers_after}
-use Rattle.image.specs.Lists.{front, behind}
-use Rattle.records.specs.Numbers.{run_from, wholes_run, reals_run}
+use Rattle.image.specs.Lists.{front, behind, Held}
+use Rattle.records.specs.Numbers.{run_from, wholes_run, reals_run, Holds}
 use Rattle.controls.specs.Controls.{fault_in, unless_refused}
+use Rattle.image.specs.Replay.{opened}
 
 -- the record's numbers, the buffers, and what the calls answered
 pub record HeldIn : Type 0 where
@@ -26,3 +27,17 @@ unfoldable pub calls_in : List Lent → HeldIn → HeldIn
 unfolding called_in
 calls_in [] h = h
 calls_in (l ∷ ls) h = calls_in ls (called_in l h)
+
+-- the numbers and the buffers of an opened sheet
+abbrev pub begun_in : List ℕ → List ℕ → List Float → Buffers → HeldIn
+begun_in sheet ns xs b = record { wholes = wholes_run (opened sheet b).answer.run ns; reals = reals_run (opened sheet b).answer.run xs; all = (opened sheet b).all; said = [] }
+
+-- what the numbers stand for
+abbrev pub held_of : HeldIn → Held
+held_of n = record { run = run_from n.wholes n.reals; all = n.all; said = n.said }
+
+-- the lists hold the record, and all else is the same
+pub record Follows (h : Held) (n : HeldIn) : Type 0 where
+  pub holds : Holds h.run n.wholes n.reals
+  pub all : n.all ≡ h.all
+  pub said : n.said ≡ h.said

@@ -23,7 +23,7 @@ use Rattle.sheet.specs.declared.Header.{Header}
 use Rattle.sheet.specs.declared.Checked.{Checked}
 use Rattle.sheet.specs.Answer.{checked_of, header_of}
 use Rattle.sheet.specs.Write.{write_refusal}
-use Rattle.heads.specs.Heads.{settings_fit, whole_by, real_by, settings_from, whole_presence, real_presence, whole_put, real_put, wholes_settings, reals_settings, head_numbers, check_fault, head_checked, wholes_checked, reals_checked, Checks, content_from, WritesFrom}
+use Rattle.heads.specs.Heads.{settings_fit, whole_by, real_by, settings_from, whole_presence, real_presence, whole_put, real_put, wholes_settings, reals_settings, head_numbers, check_fault, head_checked, wholes_checked, reals_checked, Checks, content_from, WritesFrom, HasHead}
 
 -- ---- lists that have the places
 
@@ -130,15 +130,6 @@ settings_back s ns xs fit =
     eight (λ ns. settings_from (wholes_settings s ns) (reals_settings s xs) ≡ s) (λ n0 n1 n2 n3 n4 n5 n6 n7 ns. four (λ xs. settings_from (wholes_settings s (n0 ∷ n1 ∷ n2 ∷ n3 ∷ n4 ∷ n5 ∷ n6 ∷ n7 ∷ ns)) (reals_settings s xs) ≡ s) (λ x0 x1 x2 x3 xs. front s n0 n1 n2 n3 n4 n5 n6 n7 ns x0 x1 x2 x3 xs) xs (leb-true 4 (length xs) places.1)) ns (leb-true 8 (length ns) places.0)
 
 -- ---- a head
-
--- the list hs has the head h
-pub record HasHead (h : Header) (hs : List ℕ) : Type 0 where
-  pub n : get_or hs 0 0 ≡ h.n
-  pub t : get_or hs 1 0 ≡ h.t
-  pub vertices : get_or hs 2 0 ≡ h.vertices
-  pub triangles : get_or hs 3 0 ≡ h.triangles
-  pub neighbours : get_or hs 4 0 ≡ h.neighbours
-  pub tags : get_or hs 5 0 ≡ h.tags
 
 head_front : (h : Header) (n0 n1 n2 n3 n4 n5 : ℕ) (l : List ℕ) → HasHead h (head_numbers h (n0 ∷ n1 ∷ n2 ∷ n3 ∷ n4 ∷ n5 ∷ l))
 unfolding head_numbers

@@ -119,3 +119,12 @@ pub record WritesFrom (vertices : List Float) (triangles neighbours tags ns : Li
   pub said : r ≡ write_fault (content_from vertices triangles neighbours tags ns xs) (length ns) (length xs) (length written) (length out)
   pub left : out' ≡ buffer_by r (bytes_of (content_from vertices triangles neighbours tags ns xs)) out
   pub told : written' ≡ left_by r (set written 0 (length (bytes_of (content_from vertices triangles neighbours tags ns xs)))) written
+
+-- the list hs has the head h
+pub record HasHead (h : Header) (hs : List ℕ) : Type 0 where
+  pub n : get_or hs 0 0 ≡ h.n
+  pub t : get_or hs 1 0 ≡ h.t
+  pub vertices : get_or hs 2 0 ≡ h.vertices
+  pub triangles : get_or hs 3 0 ≡ h.triangles
+  pub neighbours : get_or hs 4 0 ≡ h.neighbours
+  pub tags : get_or hs 5 0 ≡ h.tags

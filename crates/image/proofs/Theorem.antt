@@ -18,7 +18,7 @@ use Rattle.image.specs.declared.Answer.{Answer}
 use Rattle.image.specs.Calls.{Buffers, answered}
 use Rattle.image.specs.Image.{plan_of, run_of, Rest, image, floats_used, rest_of}
 use Rattle.image.proofs.Instance.{facts, parts}
-use Rattle.image.specs.Lists.{Held, front, performs}
+use Rattle.image.specs.Lists.{Held, front, performs, begun}
 use Rattle.image.proofs.ListTheorem.{Within, lent_rest, front-image, list_theorem, machine-within}
 use Rattle.image.specs.Parts.{within, counted, field_of, norms_of, gradients_of}
 use Rattle.image.specs.Points.{points_of}
@@ -27,10 +27,6 @@ use Rattle.image.proofs.ReplayTheorem as Replays
 use Rattle.image.proofs.ReplayTheorem.{not_short, as_long, opened_run, open_space}
 use Rattle.image.specs.Shown.{lengths_of, machine, state_at, Shown, ListShown, HandedOut}
 use Rattle.image.proofs.ShownTheorem.{image-shown, list_shown}
-
--- a record and the buffers, before any call
-abbrev pub begun : Run → Buffers → Held
-begun run b = record { run = run; all = b; said = [] }
 
 -- ---- of a task in range, and buffers that suffice to open it
 

@@ -27,3 +27,7 @@ unfoldable pub performs : List Lent → Held → Held
 unfolding performed
 performs [] h = h
 performs (l ∷ ls) h = performs ls (performed l h)
+
+-- a record and the buffers, before any call
+abbrev pub begun : Run → Buffers → Held
+begun run b = record { run = run; all = b; said = [] }

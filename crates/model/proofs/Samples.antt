@@ -14,7 +14,7 @@ use Rattle.format.specs.Sheet.{accepted, refused}
 use Rattle.model.specs.Task.{task}
 use Rattle.model.specs.Run.{at, last_place}
 use Rattle.model.specs.Machine.{Call, advance, back, mark, return, Space, Counter, fresh, needs, Lent, Ticked, ticks}
-use Rattle.model.proofs.Shown.{Shown, shown, sheet_read}
+use Rattle.model.specs.Shown.{Shown, shown, sheet_read}
 
 -- ---- the sheets
 

@@ -4,3 +4,4 @@ pub mod Run
 pub mod Machine
 pub mod SolvedPlace
 pub mod Sized
+pub mod Shown

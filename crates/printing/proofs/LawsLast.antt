@@ -25,13 +25,13 @@ use Rattle.image.specs.declared.Answer.{Answer}
 use Rattle.image.specs.Calls.{Buffers, fault, run_after, buffers_after}
 use Rattle.image.specs.CallLaws.{lacking}
 use Rattle.image.proofs.Instance.{facts}
-use Rattle.image.specs.Lists.{Held, front, behind, performed, performs}
+use Rattle.image.specs.Lists.{Held, front, behind, performed, performs, begun}
 use Rattle.image.proofs.ListTheorem.{counted}
 use Rattle.image.specs.Image.{run_of, image, rest_of}
 use Rattle.image.specs.Replay.{Opening, opening, opened_by, opened, Opens}
 use Rattle.image.proofs.ReplayTheorem.{as_long, opened_run, refused_unopened, open_space}
 use Rattle.image.specs.Shown.{lengths_of, machine, Shown, HandedOut}
-use Rattle.image.proofs.Theorem.{begun, lists_of_calls_image, as_opened_lem, lists_from_sheet, handed_from_sheet}
+use Rattle.image.proofs.Theorem.{lists_of_calls_image, as_opened_lem, lists_from_sheet, handed_from_sheet}
 use Rattle.text.specs.Put.{Printed}
 use Rattle.text.specs.Text.{refused_text}
 use Rattle.printing.specs.Printed.{most_bytes, places, state_text, task_text, parsed_text, printed, at_last, parsed_buffers, printed_buffers, Prints}

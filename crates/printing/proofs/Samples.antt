@@ -1,7 +1,7 @@
 -- Document 01's sample S1 from the bytes of its sheet to the text, and a sheet of no bytes, computed from the definitions. Assumes nothing.
 use Rattle.std.specs.Prelude.{ℕ, ◌≡◌, refl, List, [], ◌∷◌}
 use Rattle.model.specs.Machine.{needs}
-use Rattle.model.proofs.Shown.{shown, sheet_read}
+use Rattle.model.specs.Shown.{shown, sheet_read}
 use Rattle.text.specs.Text.{glyph, digits, places_by, places, decimal, hex_of, word, numbers, line, singles, pairs, end_line, refused_text, run_text}
 use Rattle.text.specs.Samples.{s1_text}
 use Rattle.printing.specs.Printed.{state_text, task_text, printed}

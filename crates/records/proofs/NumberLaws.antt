@@ -6,13 +6,7 @@ use Rattle.binary64.specs.NumberLaws.{both}
 use Rattle.work.specs.declared.Given.{Given}
 use Rattle.work.specs.declared.Mark.{Mark}
 use Rattle.work.specs.declared.Run.{Run}
-use Rattle.records.specs.Numbers.{whole, fitting, fits, flagged, given_from, plan_from, walk_from, stand_from, mark_from, run_from, wholes_plan, wholes_walk, wholes_stand, wholes_run, reals_plan, reals_walk, reals_stand, reals_run}
-
--- the lists hold the record r
-pub record Holds (r : Run) (ns : List ℕ) (xs : List Float) : Type 0 where
-  pub reads : run_from ns xs ≡ r
-  pub flags : flagged ns ≡ true
-  pub fit : fits ns xs ≡ true
+use Rattle.records.specs.Numbers.{whole, fitting, fits, flagged, given_from, plan_from, walk_from, stand_from, mark_from, run_from, wholes_plan, wholes_walk, wholes_stand, wholes_run, reals_plan, reals_walk, reals_stand, reals_run, Holds}
 
 -- what holds of every list that begins with seventeen elements holds of every list that is as long
 seventeen : (P : List ℕ → Type 0) → ((n0 n1 n2 n3 n4 n5 n6 n7 n8 n9 n10 n11 n12 n13 n14 n15 n16 : ℕ) (rest : List ℕ) → P (n0 ∷ n1 ∷ n2 ∷ n3 ∷ n4 ∷ n5 ∷ n6 ∷ n7 ∷ n8 ∷ n9 ∷ n10 ∷ n11 ∷ n12 ∷ n13 ∷ n14 ∷ n15 ∷ n16 ∷ rest)) → (l : List ℕ) → 17 ≤ length l → P l

@@ -1,7 +1,7 @@
 -- The record of a run as two lists of numbers, which C's callers hold: 17 whole numbers and 8 reals. Definitions only. Assumes nothing.
 -- Whole numbers: 0 n, 1 T, 2 limit, 3 room, 4 whether a start is given, 5 place, 6 norms, 7 field end, 8 triangle, 9 edge, 10 points, 11 path end, 12 crossings, 13 whether there is a mark, 14 its place, 15 its norms, 16 passes.
 -- Reals: 0 tolerance, 1 step, 2 and 3 the start, 4 r·r, 5 and 6 the position, 7 the mark's r·r.
-use Rattle.std.specs.Prelude.{ℕ, zero, suc, Bool, ◌&&◌, List, get_or, set, length, Float, leb}
+use Rattle.std.specs.Prelude.{ℕ, zero, suc, Bool, ◌&&◌, List, get_or, set, length, Float, leb, ◌≡◌, true}
 use Rattle.binary64.specs.Constants.{plus_zero}
 use Rattle.plane.specs.Plane.{point}
 use Rattle.pde.specs.declared.Walk.{Walk}
@@ -99,3 +99,9 @@ wholes_run r ns = set (wholes_mark r.mark (wholes_stand r.stand (wholes_plan r.p
 
 unfoldable pub reals_run : Run → List Float → List Float
 reals_run r xs = reals_mark r.mark (reals_stand r.stand (reals_plan r.plan xs))
+
+-- the lists hold the record r
+pub record Holds (r : Run) (ns : List ℕ) (xs : List Float) : Type 0 where
+  pub reads : run_from ns xs ≡ r
+  pub flags : flagged ns ≡ true
+  pub fit : fits ns xs ≡ true
