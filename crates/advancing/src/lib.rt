@@ -4,10 +4,11 @@
 ghost use Rattle.std.specs.Prelude.{◌≡◌, ◌+◌, ◌-◌, ◌≤◌, ltb};
 ghost use Rattle.model.specs.Machine as Machine;
 ghost use Rattle.work.specs.Dry.{Counts, gain};
-ghost use Rattle.image.specs.Calls.{buffers, Does};
+ghost use Rattle.refusal.specs.Refusal.{fault};
+ghost use Rattle.image.specs.Calls.{buffers, answer_of, Does};
 ghost use Rattle.image.specs.Exits.{over_fault};
 
-use image::Answer;
+use refusal::Refusal;
 use work::Run;
 
 // 2^64 − 1, the most passes that are counted.
@@ -20,37 +21,41 @@ fn over(passes: u64, gain: usize) -> bool
     MOST - (gain as u64) < passes
 }
 
-// 10 where an advance to the target would carry passes too far. Only near that bound are the passes counted, with nothing written.
-fn passes_fault(run: Run, target: usize, floats: &[f64], words: &[u32]) -> u32
+// An advance to the target may carry passes too far. Only near that bound are the passes counted, with nothing written.
+fn passes_fault(run: Run, target: usize, floats: &[f64], words: &[u32]) -> Result<(), Refusal>
     requires { Counts run.plan words.now run.stand (target - run.stand.place) floats.now × (run.stand.place ≤ target) }
-    ensures { result ≡ over_fault run.passes (gain run.plan words.now (target - run.stand.place) floats.now run.stand) }
+    ensures { fault result ≡ over_fault run.passes (gain run.plan words.now (target - run.stand.place) floats.now run.stand) }
 {
     let plan = run.plan;
     let stand = run.stand;
     let k = target - stand.place;
     if !over(run.passes, k) {
-        return 0;
+        return Ok(());
     }
     let more = dry::dry_gain(floats, words, plan, stand, k);
-    if over(run.passes, more) { 10 } else { 0 }
+    if over(run.passes, more) {
+        Err(Refusal::Record)
+    } else {
+        Ok(())
+    }
 }
 
-pub fn advance(run: Run, k: u32, floats: &mut [f64], words: &[u32], path: &mut [f64]) -> Answer
-    ensures { Does (Machine.advance k) run (buffers floats.old words.now path.old) result (buffers floats.new words.now path.new) }
+pub fn advance(
+    run: Run,
+    k: u32,
+    floats: &mut [f64],
+    words: &[u32],
+    path: &mut [f64],
+) -> Result<Run, Refusal>
+    ensures { Does (Machine.advance k) run (buffers floats.old words.now path.old) (answer_of run result) (buffers floats.new words.now path.new) }
 {
-    let early = gate::held_fault(run, floats, words, path);
-    if early != 0 {
-        return gate::say(early, run);
-    }
+    gate::held_fault(run, floats, words, path)?;
     let plan = run.plan;
     let place = run.stand.place;
     let target = gate::least(place + k as usize, gate::farthest(plan.t, plan.limit));
-    let late = passes_fault(run, target, floats, words);
-    if late != 0 {
-        return gate::say(late, run);
-    }
+    passes_fault(run, target, floats, words)?;
     let stand = gate::seek(run, target, floats, words, path);
     let gain = stand.place - place;
     let ahead = gate::moved(run, stand, run.passes + gain as u64);
-    gate::say(0, ahead)
+    Ok(ahead)
 }

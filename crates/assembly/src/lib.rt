@@ -1,37 +1,80 @@
 // Assembly of the matrix and the right side.
 #![tactic(auto)]
 
-ghost use Rattle.std.specs.Prelude.{◌≡◌, ◌*◌, replicate};
-ghost use Rattle.stretch.specs.Stretch.{splice};
+ghost use Rattle.std.specs.Prelude.{◌≡◌, length, replicate};
+ghost use Rattle.binary64.specs.Constants.{plus_zero};
 ghost use Rattle.laplace.specs.Mesh.{held_value};
 ghost use Rattle.laplace.specs.Assembly as Assembly;
+ghost use Rattle.laplace.specs.Elements.{pushes_of};
 ghost use Rattle.laplace.specs.Laid.{LaidFloats, LaidWords};
 ghost use Rattle.laplace.specs.Row.{tags_in};
+ghost use Rattle.laplace.specs.Rows as Rows;
 ghost use Rattle.laplace.specs.Whole as Whole;
+ghost use Rattle.rows.specs.Buffers.{SameRow, SameMatrix};
+ghost use Rattle.assembly.specs.Fields.{Fits, PutsMatrix, Lengths, Filled};
 
 use laplace::Places;
+use laplace::corners::link;
+use laplace::element::Elements;
+use right::right_side;
+use rows::matrix::Matrix;
+use rows::row::{Corners, Row};
 
-// Zeros in the row buffer and in the stretches of the matrix.
-fn clear(floats: &mut [f64], words: &mut [u32], n: usize, t: usize, at: Places)
-    requires { LaidFloats floats.old n t at × LaidWords words.old n t at }
-    ensures { Whole.Cleared floats.old words.old floats.new words.new n t at }
+// The matrix of a mesh, into an empty one, and its right side; a row to build in, and heads and links, are lent.
+fn fill(
+    matrix: &mut Matrix,
+    right: &mut [f64],
+    row: &mut Row,
+    heads: &mut [u32],
+    links: &mut [u32],
+    mesh: &Elements,
+)
+    requires { Fits mesh.now matrix.old right.old row.old heads.old links.old }
+    ensures same { SameMatrix matrix.old matrix.new × SameRow row.old row.new }
+    ensures put { PutsMatrix matrix.old matrix.new (Rows.room_of mesh.now) (Rows.rows_of mesh.now (length mesh.now.tags.now)) }
+    ensures side { right.new ≡ Assembly.right_side held_value mesh.now.tags.now (pushes_of mesh.now) (length mesh.now.tags.now) }
+    ensures row { (row.new.values.now ≡ replicate (length mesh.now.tags.now) plus_zero) × (row.new.cols.now ≡ replicate (length mesh.now.tags.now) 0) }
+    ensures corners { (heads.new ≡ replicate (length mesh.now.tags.now) 0) × (links.new ≡ replicate (length mesh.now.triangles.now) 0) }
 {
-    let m = 9 * t + n;
-    let starts = at.starts;
-    stretch::fill(floats, at.row, n, 0.0);
-    stretch::fill(floats, at.values, m, 0.0);
-    words[starts] = 0;
-    stretch::fill_words(words, at.cols, m, 0);
-    stretch::fill_words(words, at.rowcols, n, 0);
+    row.values.fill(0.0);
+    row.cols.fill(0);
+    matrix.values.fill(0.0);
+    matrix.cols.fill(0);
+    link(mesh.triangles, heads, links);
+    matrix.fill(row, mesh, Corners { heads, links });
+    heads.fill(0);
+    links.fill(0);
+    right_side(right, mesh);
 }
 
-// Zeros for heads and links.
-fn unlink(words: &mut [u32], n: usize, t: usize, at: Places)
-    requires { LaidWords words.old n t at }
-    ensures { words.new ≡ splice (splice words.old at.heads (replicate n 0)) at.links (replicate (3 * t) 0) }
+// The same into slices, each a parameter: where a struct takes parts of a buffer that is split, the proof loses what they hold at the end. Answers how many entries the matrix has.
+fn fill_slices(
+    mesh: &Elements,
+    right: &mut [f64],
+    row: &mut [f64],
+    values: &mut [f64],
+    starts: &mut [u32],
+    cols: &mut [u32],
+    heads: &mut [u32],
+    links: &mut [u32],
+    rowcols: &mut [u32],
+) -> usize
+    requires { Lengths mesh.now (length right.old) (length row.old) (length values.old) (length starts.old) (length cols.old) (length heads.old) (length links.old) (length rowcols.old) }
+    ensures { Filled mesh.now.flat mesh.now.vertices.now mesh.now.triangles.now mesh.now.tags.now starts.old right.new row.new values.new starts.new cols.new heads.new links.new rowcols.new result }
 {
-    stretch::fill_words(words, at.heads, n, 0);
-    stretch::fill_words(words, at.links, 3 * t, 0);
+    let mut matrix = Matrix {
+        starts,
+        cols,
+        values,
+        count: 0,
+    };
+    let mut row = Row {
+        values: row,
+        cols: rowcols,
+        count: 0,
+    };
+    fill(&mut matrix, right, &mut row, heads, links, mesh);
+    matrix.count
 }
 
 // The matrix and the right side of the mesh that stands in the buffers; a triangle is skipped where twice its area is below `flat` in magnitude. Answers how many entries the matrix has.
@@ -48,10 +91,30 @@ pub fn assemble(
         (Whole.rows_for flat floats.old words.old n t at n)
         (Assembly.right_side held_value (tags_in words.old n at) (Whole.pushes_in flat floats.old words.old n t at) n) }
 {
-    clear(floats, words, n, t, at);
-    laplace::corners::link(words, n, t, at);
-    let count = rows::matrix::fill_matrix(floats, words, n, t, at, flat);
-    unlink(words, n, t, at);
-    right::right_side(floats, words, n, t, at, flat);
-    count
+    let room = 9 * t + n;
+    let (front, floats) = floats.split_at_mut(at.right);
+    let (right, floats) = floats.split_at_mut(at.row - at.right);
+    let (row, values) = floats.split_at_mut(at.values - at.row);
+    let (mesh_words, words) = words.split_at_mut(at.starts);
+    let (starts, words) = words.split_at_mut(at.cols - at.starts);
+    let (cols, words) = words.split_at_mut(at.heads - at.cols);
+    let (heads, words) = words.split_at_mut(at.links - at.heads);
+    let (links, rowcols) = words.split_at_mut(at.rowcols - at.links);
+    let mesh = Elements {
+        vertices: &front[at.vertices..at.vertices + 2 * n],
+        triangles: &mesh_words[at.triangles..at.triangles + 3 * t],
+        tags: &mesh_words[at.tags..at.tags + n],
+        flat,
+    };
+    fill_slices(
+        &mesh,
+        &mut right[0..n],
+        &mut row[0..n],
+        &mut values[0..room],
+        &mut starts[0..n + 1],
+        &mut cols[0..room],
+        &mut heads[0..n],
+        &mut links[0..3 * t],
+        &mut rowcols[0..n],
+    )
 }

@@ -1,7 +1,7 @@
 -- What a pattern of binary64 is read as, sorted by the exponent's field: zero, subnormal or ordinary (a finite value that is not zero), infinite or blank. Assumes nothing.
 use Rattle.std.proofs.Common.{◌≡◌, ℕ, zero, suc, ◌+◌, ◌-◌, ◌*◌, ◌/◌, ◌%◌, ◌^◌, ◌<◌, ◌≤◌, Bool, true, false, cond, not, T, eqb, ℤ, pos, sym, refl, ap, ◌∙◌, subst, lt_irrefl, mod-eq_of_lt, mul-pos, zero-mul, arith, pow_pos, ne_eqb, le-leb}
 use borrow.Author.Tests.{lt-leb}
-use lib.Ieee.{Float, nan, inf, fin, binary64, up, down, minus, odd, is_nan, ne, fits, of_fields, of_bits, to_bits}
+use lib.Ieee.{Float, nan, inf, fin, binary64, up, down, odd, is_nan, ne, fits, of_fields, of_bits, to_bits}
 use lib.Ieee.Digits.{odd_val}
 use lib.Ieee.Compare.{differs_from_itself}
 use lib.Ieee.Fits.{down_pos}

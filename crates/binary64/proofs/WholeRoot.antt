@@ -1,6 +1,6 @@
 -- The whole part of a square root: `whole_root k n` is the one number whose square is at most n and whose successor's square is above it, for n below 4 ^ k;
 -- and the method of digits, which finds it two digits of n at a time. Assumes nothing.
-use Rattle.std.proofs.Common.{◌≡◌, ℕ, zero, suc, ◌+◌, ◌-◌, ◌*◌, ◌/◌, ◌%◌, ◌^◌, ◌<◌, ◌≤◌, Bool, true, false, leb, sym, refl, ap, ◌∙◌, zero-le, lt_of_lt_of_le, lt_of_le_of_lt, mul_assoc, mul-le-mul, mul-div_cancel, arith, pow_mono, pow-add, shl_lt, leb-false, leb-true}
+use Rattle.std.proofs.Common.{◌≡◌, ℕ, zero, suc, ◌+◌, ◌*◌, ◌/◌, ◌%◌, ◌^◌, ◌<◌, ◌≤◌, Bool, true, false, leb, sym, refl, ap, ◌∙◌, zero-le, lt_of_lt_of_le, lt_of_le_of_lt, mul_assoc, mul-le-mul, mul-div_cancel, arith, pow_mono, pow-add, shl_lt, leb-false, leb-true}
 use native.Mathlib.Nat.{pow-succ'}
 use lib.Arith.{digits_div}
 use Rattle.binary64.specs.Number.{pick}

@@ -2,61 +2,59 @@
 #![tactic(auto)]
 
 ghost use Rattle.model.specs.Machine as Machine;
-ghost use Rattle.image.specs.Calls.{buffers, Does};
+ghost use Rattle.image.specs.Calls.{buffers, answer_of, Does};
 
-use image::Answer;
-use work::{Kept, Mark, Run};
+use refusal::Refusal;
+use work::{Kept, Run};
 
-pub fn back(run: Run, k: u32, floats: &mut [f64], words: &[u32], path: &mut [f64]) -> Answer
-    ensures { Does (Machine.back k) run (buffers floats.old words.now path.old) result (buffers floats.new words.now path.new) }
+pub fn back(
+    run: Run,
+    k: u32,
+    floats: &mut [f64],
+    words: &[u32],
+    path: &mut [f64],
+) -> Result<Run, Refusal>
+    ensures { Does (Machine.back k) run (buffers floats.old words.now path.old) (answer_of run result) (buffers floats.new words.now path.new) }
 {
-    let early = gate::held_fault(run, floats, words, path);
-    if early != 0 {
-        return gate::say(early, run);
-    }
+    gate::held_fault(run, floats, words, path)?;
     let place = run.stand.place;
-    let before = place - gate::least(place, k as usize);
+    let before = place.saturating_sub(k as usize);
     let stand = gate::seek(run, before, floats, words, path);
     let earlier = gate::moved(run, stand, run.passes);
-    gate::say(0, earlier)
+    Ok(earlier)
 }
 
-pub fn mark(run: Run, floats: &mut [f64], words: &[u32], path: &mut [f64]) -> Answer
-    ensures { Does Machine.mark run (buffers floats.old words.now path.old) result (buffers floats.new words.now path.new) }
+pub fn mark(run: Run, floats: &mut [f64], words: &[u32], path: &mut [f64]) -> Result<Run, Refusal>
+    ensures { Does Machine.mark run (buffers floats.old words.now path.old) (answer_of run result) (buffers floats.new words.now path.new) }
 {
-    let early = gate::held_fault(run, floats, words, path);
-    if early != 0 {
-        return gate::say(early, run);
-    }
-    let plan = run.plan;
+    gate::held_fault(run, floats, words, path)?;
     let stand = run.stand;
-    seek::keep(floats, plan);
+    seek::keep(floats, run.plan);
     let kept = Kept {
         place: stand.place,
         rs: stand.rs,
         norms: stand.norms,
     };
     let marked = Run {
-        plan,
-        stand,
-        mark: Mark::At(kept),
-        passes: run.passes,
+        mark: Some(kept),
+        ..run
     };
-    gate::say(0, marked)
+    Ok(marked)
 }
 
-pub fn return_to_mark(run: Run, floats: &mut [f64], words: &[u32], path: &mut [f64]) -> Answer
-    ensures { Does Machine.return run (buffers floats.old words.now path.old) result (buffers floats.new words.now path.new) }
+pub fn return_to_mark(
+    run: Run,
+    floats: &mut [f64],
+    words: &[u32],
+    path: &mut [f64],
+) -> Result<Run, Refusal>
+    ensures { Does Machine.return run (buffers floats.old words.now path.old) (answer_of run result) (buffers floats.new words.now path.new) }
 {
-    let early = gate::held_fault(run, floats, words, path);
-    if early != 0 {
-        return gate::say(early, run);
-    }
-    let kept = run.mark;
-    let Mark::At(k) = kept else {
-        return gate::say(9, run);
+    gate::held_fault(run, floats, words, path)?;
+    let Some(k) = run.mark else {
+        return Err(Refusal::NoMark);
     };
     let stand = gate::seek(run, k.place, floats, words, path);
     let returned = gate::moved(run, stand, run.passes);
-    gate::say(0, returned)
+    Ok(returned)
 }

@@ -12,6 +12,8 @@ ghost use Rattle.records.specs.Numbers.{run_from, whole};
 ghost use Rattle.heads.specs.Heads as Heads;
 ghost use Rattle.controls.specs.Controls as Controls;
 
+use image::Call;
+
 // ---- the sheet
 
 #[unsafe(no_mangle)]
@@ -23,7 +25,7 @@ pub extern "C" fn cintrok_raw_check(
 ) -> u32
     ensures { Heads.Checks sheet.now head.old wholes.old reals.old result head.new wholes.new reals.new }
 {
-    heads::check(sheet, head, wholes, reals)
+    refusal::number(heads::check(sheet, head, wholes, reals))
 }
 
 #[unsafe(no_mangle)]
@@ -67,9 +69,9 @@ pub extern "C" fn cintrok_raw_write_sheet(
 ) -> u32
     ensures { Heads.WritesFrom vertices.now triangles.now neighbours.now tags.now wholes.now reals.now out.old written.old result out.new written.new }
 {
-    heads::write(
+    refusal::number(heads::write(
         vertices, triangles, neighbours, tags, wholes, reals, out, written,
-    )
+    ))
 }
 
 // ---- the run
@@ -85,7 +87,7 @@ pub extern "C" fn cintrok_raw_open(
 ) -> u32
     ensures { Controls.OpenedIn sheet.now wholes.old reals.old (buffers floats.old words.old path.old) result wholes.new reals.new (buffers floats.new words.new path.new) }
 {
-    controls::open(sheet, floats, words, path, wholes, reals)
+    refusal::number(controls::open(sheet, floats, words, path, wholes, reals))
 }
 
 #[unsafe(no_mangle)]
@@ -99,7 +101,7 @@ pub extern "C" fn cintrok_raw_advance(
 ) -> u32
     ensures { Controls.Called (Machine.advance k) wholes.old reals.old (buffers floats.old words.now path.old) result wholes.new reals.new (buffers floats.new words.now path.new) }
 {
-    controls::call(0, k, floats, words, path, wholes, reals)
+    refusal::number(controls::call(Call::Advance(k), floats, words, path, wholes, reals))
 }
 
 #[unsafe(no_mangle)]
@@ -113,7 +115,7 @@ pub extern "C" fn cintrok_raw_back(
 ) -> u32
     ensures { Controls.Called (Machine.back k) wholes.old reals.old (buffers floats.old words.now path.old) result wholes.new reals.new (buffers floats.new words.now path.new) }
 {
-    controls::call(1, k, floats, words, path, wholes, reals)
+    refusal::number(controls::call(Call::Back(k), floats, words, path, wholes, reals))
 }
 
 #[unsafe(no_mangle)]
@@ -126,7 +128,7 @@ pub extern "C" fn cintrok_raw_mark(
 ) -> u32
     ensures { Controls.Called Machine.mark wholes.old reals.old (buffers floats.old words.now path.old) result wholes.new reals.new (buffers floats.new words.now path.new) }
 {
-    controls::call(2, 0, floats, words, path, wholes, reals)
+    refusal::number(controls::call(Call::Mark, floats, words, path, wholes, reals))
 }
 
 #[unsafe(no_mangle)]
@@ -139,7 +141,7 @@ pub extern "C" fn cintrok_raw_return(
 ) -> u32
     ensures { Controls.Called Machine.return wholes.old reals.old (buffers floats.old words.now path.old) result wholes.new reals.new (buffers floats.new words.now path.new) }
 {
-    controls::call(3, 0, floats, words, path, wholes, reals)
+    refusal::number(controls::call(Call::Return, floats, words, path, wholes, reals))
 }
 
 #[unsafe(no_mangle)]
@@ -153,7 +155,7 @@ pub extern "C" fn cintrok_raw_length(
 ) -> u32
     ensures { Controls.Measured wholes.now reals.now (buffers floats.now words.now path.now) out.old result out.new }
 {
-    controls::length(floats, words, path, wholes, reals, out)
+    refusal::number(controls::length(floats, words, path, wholes, reals, out))
 }
 
 // ---- what a run shows
@@ -162,28 +164,28 @@ pub extern "C" fn cintrok_raw_length(
 pub extern "C" fn cintrok_raw_place(wholes: &[u64]) -> u64
     ensures { result ≡ whole wholes.now 5 }
 {
-    records::lists::whole(wholes, 5)
+    records::lists::get_or(wholes, 5, 0)
 }
 
 #[unsafe(no_mangle)]
 pub extern "C" fn cintrok_raw_passes(wholes: &[u64]) -> u64
     ensures { result ≡ whole wholes.now 16 }
 {
-    records::lists::whole(wholes, 16)
+    records::lists::get_or(wholes, 16, 0)
 }
 
 #[unsafe(no_mangle)]
 pub extern "C" fn cintrok_raw_field_end(wholes: &[u64]) -> u64
     ensures { result ≡ whole wholes.now 7 }
 {
-    records::lists::whole(wholes, 7)
+    records::lists::get_or(wholes, 7, 0)
 }
 
 #[unsafe(no_mangle)]
 pub extern "C" fn cintrok_raw_path_end(wholes: &[u64]) -> u64
     ensures { result ≡ whole wholes.now 11 }
 {
-    records::lists::whole(wholes, 11)
+    records::lists::get_or(wholes, 11, 0)
 }
 
 #[unsafe(no_mangle)]
@@ -195,7 +197,7 @@ pub extern "C" fn cintrok_raw_field(
 ) -> u32
     ensures { Controls.Handed (Controls.field_at (run_from wholes.now reals.now).plan) (field_of (run_from wholes.now reals.now) floats.now) wholes.now reals.now out.old result out.new }
 {
-    controls::field(floats, wholes, reals, out)
+    refusal::number(controls::field(floats, wholes, reals, out))
 }
 
 #[unsafe(no_mangle)]
@@ -207,7 +209,7 @@ pub extern "C" fn cintrok_raw_norms(
 ) -> u32
     ensures { Controls.Handed (Controls.norms_at (run_from wholes.now reals.now).plan) (norms_of (run_from wholes.now reals.now) floats.now) wholes.now reals.now out.old result out.new }
 {
-    controls::norms(floats, wholes, reals, out)
+    refusal::number(controls::norms(floats, wholes, reals, out))
 }
 
 #[unsafe(no_mangle)]
@@ -219,7 +221,7 @@ pub extern "C" fn cintrok_raw_gradients(
 ) -> u32
     ensures { Controls.Handed (Controls.gradients_at (run_from wholes.now reals.now).plan) (gradients_of (run_from wholes.now reals.now) floats.now) wholes.now reals.now out.old result out.new }
 {
-    controls::gradients(floats, wholes, reals, out)
+    refusal::number(controls::gradients(floats, wholes, reals, out))
 }
 
 #[unsafe(no_mangle)]
@@ -231,7 +233,7 @@ pub extern "C" fn cintrok_raw_points(
 ) -> u32
     ensures { Controls.Handed 0 (points_of (run_from wholes.now reals.now) path.now) wholes.now reals.now out.old result out.new }
 {
-    controls::points(path, wholes, reals, out)
+    refusal::number(controls::points(path, wholes, reals, out))
 }
 
 #[unsafe(no_mangle)]
@@ -244,5 +246,5 @@ pub extern "C" fn cintrok_raw_space_needed(
 ) -> u32
     ensures { Controls.Needed n t limit room out.old result out.new }
 {
-    controls::space_needed(n, t, limit, room, out)
+    refusal::number(controls::space_needed(n, t, limit, room, out))
 }

@@ -1,4 +1,2 @@
-pub mod LawsTriple
 pub mod LawsLoops
 pub mod LawsPass
-pub mod LawsBeside

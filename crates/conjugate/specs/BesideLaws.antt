@@ -1,14 +1,19 @@
 -- What a pass on vectors in a buffer of their own leaves there: the vectors of the definition. Assumes nothing.
-use Rattle.std.specs.Prelude.{◌≡◌, refl, List, ℕ, ◌*◌, ◌≤◌, length, Float}
-use Rattle.std.proofs.Common.{◌∙◌, arith}
+use Rattle.std.specs.Prelude.{◌≡◌, refl, List, [], ◌++◌, ℕ, ◌+◌, ◌-◌, ◌*◌, ◌≤◌, length, take, drop, Float}
+use Rattle.std.proofs.Math.Seq.{take_all, drop-drop}
+use lib.ListN.{drop_of_length-le}
+use Rattle.std.proofs.Common.{sym, ap, ◌∙◌, arith, zero-add, append_assoc, append-nil, length-append, length-drop, take-append-drop}
 use Rattle.stretch.specs.Stretch.{part, splice}
-use Rattle.stretch.specs.StretchLaws.{length_part, length-splice, part_splice-before, part_splice-after, part_splice-same}
-use Rattle.sparse.specs.declared.Csr.{Csr}
-use Rattle.sparse.specs.Stored.{matrix}
+use Rattle.stretch.specs.StretchLaws.{length_part, length-splice, part_front, splice_front, splice_is, splice_part, part_splice-before, part_splice-after, part_splice-same}
+use Rattle.sparse.specs.Sparse.{Entry}
+use Rattle.sparse.specs.Stored.{CsrAt, matrix}
+use Rattle.conjugate.specs.declared.Pass.{Pass}
 use Rattle.sparse.specs.ProductLaws.{length-rows_of}
-use Rattle.conjugate.specs.Solver.{Solve, Turn, halted, reached, moved}
+use Rattle.conjugate.specs.Solver.{Solve, Turn, halted, reached, moved, pass}
 use Rattle.conjugate.specs.SolverLaws.{Long, after, after_long}
-use Rattle.conjugate.specs.Beside.{vectors_of, left_by, turn_beside}
+use Rattle.conjugate.specs.Passes.{solve, Leaves, Passes}
+use Rattle.conjugate.specs.PlacedLaws.{splice-splice_next}
+use Rattle.conjugate.specs.Beside.{vectors_of, left_by, turn_beside, PassedBeside}
 
 -- the vectors of u, one after the other
 pub record Vectored (l : List Float) (n : ℕ) (u : Solve) : Type 0 where
@@ -49,9 +54,122 @@ left_vectored n v rs (moved u norm) h long =
     }
 
 -- what a pass leaves
-pub passed_vectored : (words : List ℕ) (floats : List Float) (m : Csr) (v : List Float) (tiny tolerance rs : Float) → 3 * m.rows ≤ length v
+pub passed_vectored : (words : List ℕ) (floats : List Float) (m : CsrAt) (v : List Float) (tiny tolerance rs : Float) → 3 * m.rows ≤ length v
     → Vectored (left_by m.rows v (turn_beside words floats m v tiny tolerance rs)) m.rows (after (vectors_of v m.rows rs) (turn_beside words floats m v tiny tolerance rs))
 passed_vectored words floats m v tiny tolerance rs h =
     let n : ℕ = m.rows in
     let long : Long n (vectors_of v n rs) = record { x_long = length_part v 0 n (omega arith); r_long = length_part v n n (omega arith); p_long = length_part v (2 * n) n (omega arith) } in
     left_vectored n v rs (turn_beside words floats m v tiny tolerance rs) h (after_long n tiny (matrix words floats m) tolerance (vectors_of v n rs) (length-rows_of words floats m n) long)
+
+-- ---- the vectors lent as slices of their own: mat is their matrix, x₀, r₀ and p₀ are the vectors at entry, x, r and p what is left of them
+
+-- what a pass leaves, as the vectors put down
+left_put : (n : ℕ) (v : List Float) (rs : Float) (t : Turn) → 3 * n ≤ length v → Long n (after (vectors_of v n rs) t)
+    → left_by n v t ≡ splice (splice (splice v 0 (after (vectors_of v n rs) t).x) n (after (vectors_of v n rs) t).r) (2 * n) (after (vectors_of v n rs) t).p
+unfolding left_by
+left_put n v rs halted h long = simp splice_part
+left_put n v rs (reached x r norm) h long =
+    let ex : length x ≡ n = long.x_long in
+    let er : length r ≡ n = long.r_long in
+    let l : List Float = splice (splice v 0 x) n r in
+    let keeps : part l (2 * n) n ≡ part v (2 * n) n = part_splice-after (splice v 0 x) n r (2 * n) n (omega arith) ∙ part_splice-after v 0 x (2 * n) n (omega arith) in
+    sym (splice_part l (2 * n) n) ∙ ap (λ (q : List Float). splice l (2 * n) q) keeps
+left_put n v rs (moved u norm) h long = refl
+
+joined_put : (v : List Float) (n : ℕ) (x r p : List Float) → 3 * n ≤ length v → length x ≡ n → length r ≡ n → length p ≡ n
+    → x ++ (r ++ (p ++ drop (3 * n) v)) ≡ splice (splice (splice v 0 x) n r) (2 * n) p
+joined_put v n x r p h ex er ep =
+    let all : List Float = x ++ (r ++ p) in
+    let l₁ : length (r ++ p) ≡ n + n = length-append r p ∙ cc in
+    let l₂ : length all ≡ 3 * n = length-append x (r ++ p) ∙ omega arith in
+    let parts : x ++ (r ++ (p ++ drop (3 * n) v)) ≡ all ++ drop (3 * n) v = simp append_assoc in
+    let put : splice (splice (splice v 0 x) n r) (2 * n) p ≡ splice v 0 all = splice-splice_next (splice v 0 x) n (2 * n) n r p (omega arith) er ∙ splice-splice_next v 0 n n x (r ++ p) (omega arith) ex in
+    let back : splice v 0 all ≡ all ++ drop (3 * n) v = splice_is v all 0 (3 * n) l₂ (omega arith) ∙ ap (λ (k : ℕ). all ++ drop k v) (zero-add (3 * n)) in
+    parts ∙ sym back ∙ sym put
+
+-- with any matrix of n rows
+pub passed_beside_parts : (mat : List (List Entry)) {n : ℕ} {v x₀ r₀ p₀ x r p l : List Float} {answer : Pass} (tiny tolerance rs : Float) → 3 * n ≤ length v → length mat ≡ n
+    → x₀ ≡ part v 0 n → r₀ ≡ part v n n → p₀ ≡ part v (2 * n) n → Passes mat tiny tolerance (solve x₀ r₀ p₀ rs) x r p answer
+    → l ≡ x ++ (r ++ (p ++ drop (3 * n) v)) → PassedBeside v l n (pass tiny mat tolerance (vectors_of v n rs)) answer
+passed_beside_parts mat {n} {v} {x₀} {r₀} {p₀} {x} {r} {p} {l} {answer} tiny tolerance rs h many ex₀ er₀ ep₀ d el =
+    let s : Solve = vectors_of v n rs in
+    let t : Turn = pass tiny mat tolerance s in
+    let done : Leaves s t x r p answer = rw (ex₀, er₀, ep₀) at d in
+    let from : Long n s = record { x_long = length_part v 0 n (omega arith); r_long = length_part v n n (omega arith); p_long = length_part v (2 * n) n (omega arith) } in
+    let long : Long n (after s t) = after_long n tiny mat tolerance s many from in
+    let lx : length x ≡ n = ap length done.x_is ∙ long.x_long in
+    let lr : length r ≡ n = ap length done.r_is ∙ long.r_long in
+    let lp : length p ≡ n = ap length done.p_is ∙ long.p_long in
+    record { said = done.said; left = el ∙ joined_put v n x r p h lx lr lp ∙ cc (done.x_is, done.r_is, done.p_is) ∙ sym (left_put n v rs t h long) }
+
+-- of a stored matrix
+pub passed_beside_of : (words : List ℕ) (floats : List Float) (m : CsrAt) {v : List Float} {mat : List (List Entry)} {x₀ r₀ p₀ x r p l : List Float} {answer : Pass} (tiny tolerance rs : Float) → 3 * m.rows ≤ length v
+    → mat ≡ matrix words floats m → x₀ ≡ part v 0 m.rows → r₀ ≡ part v m.rows m.rows → p₀ ≡ part v (2 * m.rows) m.rows → Passes mat tiny tolerance (solve x₀ r₀ p₀ rs) x r p answer
+    → l ≡ x ++ (r ++ (p ++ drop (3 * m.rows) v)) → PassedBeside v l m.rows (turn_beside words floats m v tiny tolerance rs) answer
+passed_beside_of words floats m {v} {mat} tiny tolerance rs h em ex₀ er₀ ep₀ d el =
+    rw em at (passed_beside_parts mat tiny tolerance rs h (ap length em ∙ length-rows_of words floats m m.rows) ex₀ er₀ ep₀ d el)
+
+-- ---- vectors in a row in a slice v of 3n, lent as x and the other two: `front` and `back` at entry, front' and back' after
+
+module _ (v : List Float) (n : ℕ) (many : length v ≡ 3 * n) where
+  second_of : {back : List Float} → back ≡ drop n v → take n back ≡ part v n n
+  unfolding part
+  second_of e = ap (take n) e
+
+  third_of : {back : List Float} → back ≡ drop n v → drop n back ≡ part v (2 * n) n
+  unfolding part
+  third_of {back} e =
+      let two : n + n ≡ 2 * n = omega arith in
+      let long : length (drop (2 * n) v) ≡ length v - 2 * n = length-drop (2 * n) v in
+      ap (drop n) e ∙ drop-drop n n v ∙ ap (λ (k : ℕ). drop k v) two ∙ sym (take_all n (drop (2 * n) v) (omega arith))
+
+  joined_of : (front' back' : List Float) → front' ++ back' ≡ front' ++ (take n back' ++ (drop n back' ++ drop (3 * n) v))
+  joined_of front' back' =
+      let none : drop (3 * n) v ≡ [] = drop_of_length-le v {i = 3 * n} (omega arith) in
+      rw (none, append-nil, take-append-drop)
+
+  pub passed_beside_row : (mat : List (List Entry)) {front back : List Float} (front' back' : List Float) {answer : Pass} (tiny tolerance rs : Float) → length mat ≡ n → front ≡ take n v → back ≡ drop n v
+      → Passes mat tiny tolerance (solve front (take n back) (drop n back) rs) front' (take n back') (drop n back') answer → PassedBeside v (front' ++ back') n (pass tiny mat tolerance (vectors_of v n rs)) answer
+  unfolding part
+  passed_beside_row mat front' back' tiny tolerance rs rows ef eb d =
+      passed_beside_parts mat tiny tolerance rs (omega arith) rows ef (second_of eb) (third_of eb) d (joined_of front' back')
+
+-- ---- a slice v of 3n that is the front of a longer one
+
+module _ (v rest : List Float) (n : ℕ) (many : length v ≡ 3 * n) where
+  fits : 3 * n ≤ length (v ++ rest)
+  fits = omega (arith, length-append v rest)
+
+  vectors_front : (rs : Float) → vectors_of (v ++ rest) n rs ≡ vectors_of v n rs
+  vectors_front rs =
+      let x : part (v ++ rest) 0 n ≡ part v 0 n = part_front v rest 0 n (omega arith) in
+      let r : part (v ++ rest) n n ≡ part v n n = part_front v rest n n (omega arith) in
+      let p : part (v ++ rest) (2 * n) n ≡ part v (2 * n) n = part_front v rest (2 * n) n (omega arith) in
+      cc
+
+  put_front : (x r p : List Float) → length x ≡ n → length r ≡ n → length p ≡ n
+      → splice (splice (splice (v ++ rest) 0 x) n r) (2 * n) p ≡ splice (splice (splice v 0 x) n r) (2 * n) p ++ rest
+  put_front x r p ex er ep =
+      let v₁ : List Float = splice v 0 x in
+      let v₂ : List Float = splice v₁ n r in
+      let l₁ : length v₁ ≡ length v = length-splice v 0 x in
+      let l₂ : length v₂ ≡ length v₁ = length-splice v₁ n r in
+      ap (λ (w : List Float). splice (splice w n r) (2 * n) p) (splice_front v rest 0 x (omega arith))
+      ∙ ap (λ (w : List Float). splice w (2 * n) p) (splice_front v₁ rest n r (omega arith))
+      ∙ splice_front v₂ rest (2 * n) p (omega arith)
+
+  pub passed_beside_front : (mat : List (List Entry)) {v' : List Float} {answer : Pass} (tiny tolerance rs : Float) → length mat ≡ n → PassedBeside v v' n (pass tiny mat tolerance (vectors_of v n rs)) answer
+      → PassedBeside (v ++ rest) (v' ++ rest) n (pass tiny mat tolerance (vectors_of (v ++ rest) n rs)) answer
+  passed_beside_front mat {v'} {answer} tiny tolerance rs rows d =
+      let s : Solve = vectors_of v n rs in
+      let t : Turn = pass tiny mat tolerance s in
+      let e = vectors_front rs in
+      let from : Long n s = record { x_long = length_part v 0 n (omega arith); r_long = length_part v n n (omega arith); p_long = length_part v (2 * n) n (omega arith) } in
+      let long : Long n (after s t) = after_long n tiny mat tolerance s rows from in
+      let same : after (vectors_of (v ++ rest) n rs) t ≡ after s t = ap (λ (q : Solve). after q t) e in
+      let whole : left_by n (v ++ rest) t ≡ left_by n v t ++ rest =
+      left_put n (v ++ rest) rs t fits (rw same long)
+      ∙ ap (λ (u : Solve). splice (splice (splice (v ++ rest) 0 u.x) n u.r) (2 * n) u.p) same
+      ∙ put_front (after s t).x (after s t).r (after s t).p long.x_long long.r_long long.p_long
+      ∙ ap (λ (w : List Float). w ++ rest) (sym (left_put n v rs t (omega arith) long)) in
+      rw e (record { said = d.said; left = ap (λ (w : List Float). w ++ rest) d.left ∙ sym whole })

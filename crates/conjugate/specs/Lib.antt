@@ -1,4 +1,5 @@
 pub mod Solver
+pub mod Passes
 pub mod SolverLaws
 pub mod Placed
 pub mod PlacedLaws

@@ -13,7 +13,8 @@ use Rattle.stretch.specs.Vec.{dot, plus, less}
 use Rattle.stretch.proofs.VecLaws.{length_zip}
 use Rattle.sparse.specs.Sparse.{Entry, mat_vec}
 use Rattle.sparse.specs.ProductLaws.{length-mat_vec}
-use Rattle.conjugate.specs.Solver.{Solve, Turn, halted, reached, moved, pass, begun}
+use Rattle.conjugate.specs.Solver.{Solve, halted, reached, moved, pass, begun}
+pub use Rattle.conjugate.specs.Passes.{after}
 
 -- ---- the values of a pass from s
 
@@ -52,12 +53,6 @@ pub record Long (n : ℕ) (s : Solve) : Type 0 where
   pub x_long : length s.x ≡ n
   pub r_long : length s.r ≡ n
   pub p_long : length s.p ≡ n
-
--- the vectors after a pass from s
-abbrev pub after : Solve → Turn → Solve
-after s halted = s
-after s (reached x r norm) = record { x = x; r = r; p = s.p; rs = s.rs }
-after s (moved t norm) = t
 
 zip_long : (f : Float → Float → Float) (n : ℕ) (us vs : List Float) → length us ≡ n → length vs ≡ n → length (zip_with f us vs) ≡ n
 zip_long f n us vs eu ev = length_zip f us vs (omega arith) ∙ eu

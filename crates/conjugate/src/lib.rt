@@ -1,24 +1,18 @@
-// Conjugate gradients on vectors in one lent buffer: place 0, and one pass.
+// Conjugate gradients: place 0, and one pass.
 #![tactic(auto)]
 
-ghost use Rattle.std.specs.Prelude.{◌≡◌, ◌+◌, ◌*◌, ◌≤◌, ◌<◌, length, get_or};
+ghost use Rattle.std.specs.Prelude.{◌≡◌, ◌*◌, length, take, drop, replicate};
 ghost use mathlib.Core.List.{zip_with};
-ghost use Rattle.std.specs.Float.{nan};
-ghost use Rattle.stretch.specs.Stretch.{part, Wrote};
+ghost use Rattle.binary64.specs.Constants.{plus_zero};
 ghost use Rattle.stretch.specs.Vec as Vec;
+ghost use Rattle.sparse.specs.Sparse.{mat_vec};
+ghost use Rattle.sparse.specs.Matrix.{matrix_of, rows};
+ghost use Rattle.conjugate.specs.Solver.{pass, begun};
+ghost use Rattle.conjugate.specs.Passes as Passes;
 ghost use Rattle.conjugate.specs.Placed as Placed;
 ghost use Rattle.conjugate.specs.Beside as Beside;
 
-use sparse::Csr;
-
-// Where the vectors of a pass start.
-#[derive(Clone, Copy)]
-pub struct Vectors {
-    pub x: usize,
-    pub r: usize,
-    pub p: usize,
-    pub product: usize,
-}
+use sparse::Matrix;
 
 // What a pass comes to: p·Ap that counts as zero; a norm below the tolerance; or the next sum of squares with its norm.
 #[derive(Clone, Copy)]
@@ -29,174 +23,242 @@ pub enum Pass {
 }
 
 // x + alpha p and r − alpha q, where q is the product, which is cleared. Answers the new r·r.
-fn step(floats: &mut [f64], at: Vectors, n: usize, alpha: f64) -> f64
-    requires { Placed.InRow (length floats.old) at n }
-    ensures { Placed.Stepped floats.old floats.new at alpha n result }
+fn step(x: &mut [f64], r: &mut [f64], p: &[f64], q: &mut [f64], alpha: f64) -> f64
+    requires { Passes.AsLong (length p.now) x.old r.old q.old }
+    ensures stepped { Passes.Stepped x.old r.old p.now q.old alpha x.new r.new result }
+    ensures cleared { q.new ≡ replicate (length p.now) plus_zero }
 {
     let mut sum = 0.0;
-    for i in 0..n {
-        let a = at.x + i;
-        let b = at.r + i;
-        let c = at.p + i;
-        let d = at.product + i;
-        let u = floats[a] + alpha * floats[c];
-        let v = floats[b] - alpha * floats[d];
-        floats[a] = u;
-        floats[b] = v;
-        floats[d] = 0.0;
+    for (i, along) in p.iter().enumerate() {
+        let u = x[i] + alpha * *along;
+        let v = r[i] - alpha * q[i];
+        x[i] = u;
+        r[i] = v;
+        q[i] = 0.0;
         sum = sum + v * v;
     }
     sum
 }
 
 // r + beta p at p.
-fn direct(floats: &mut [f64], r: usize, p: usize, n: usize, beta: f64)
-    requires { (r + n ≤ p) × (p + n ≤ length floats.old) }
-    ensures { Wrote floats.old floats.new p n (zip_with (Vec.plus beta) (part floats.old r n) (part floats.old p n)) }
+fn direct(r: &[f64], p: &mut [f64], beta: f64)
+    requires { length p.old ≡ length r.now }
+    ensures { p.new ≡ zip_with (Vec.plus beta) r.now p.old }
 {
-    for i in 0..n {
-        let a = r + i;
-        let b = p + i;
-        floats[b] = floats[a] + beta * floats[b];
+    for (i, residual) in r.iter().enumerate() {
+        p[i] = *residual + beta * p[i];
     }
 }
 
-// One pass from the vectors at `at` with rs = r·r; `tiny` is where p·Ap halts it.
+// One pass with rs = r·r; `tiny` is where p·Ap halts it. Between passes the product is +0 everywhere.
 pub fn one_pass(
-    floats: &mut [f64],
-    words: &[u32],
-    m: Csr,
-    at: Vectors,
+    a: &Matrix,
+    x: &mut [f64],
+    r: &mut [f64],
+    p: &mut [f64],
+    product: &mut [f64],
     tiny: f64,
     tolerance: f64,
     rs: f64,
 ) -> Pass
-    requires { Placed.Laid words.now (length floats.old) m at }
-    ensures { Placed.Passed floats.old floats.new m.rows at
-        (Placed.turn_of words.now floats.old m at tiny tolerance rs) result }
+    requires { Passes.AsLong (rows a.now) x.old r.old p.old × (length product.old ≡ rows a.now) }
+    ensures passed { Passes.Passes (matrix_of a.now) tiny tolerance (Passes.solve x.old r.old p.old rs) x.new r.new p.new result }
+    ensures cleared { product.new ≡ replicate (rows a.now) plus_zero }
 {
-    let n = m.rows;
-    let r = at.r;
-    let p = at.p;
-    let q = at.product;
-    let pap = sparse::product(floats, words, m, q, p);
+    let pap = a.product(p, product);
     if binary64::abs(pap) < tiny {
-        stretch::fill(floats, q, n, 0.0);
+        product.fill(0.0);
         return Pass::Halted;
     }
-    let next = step(floats, at, n, rs / pap);
+    let next = step(x, r, p, product, rs / pap);
     let norm = root::sqrt(next);
     if norm < tolerance {
         return Pass::Reached(norm);
     }
-    direct(floats, r, p, n, next / rs);
+    direct(r, p, next / rs);
     Pass::Moved(next, norm)
 }
 
-// The right side from b less the product, at r and at p; the product is cleared. Answers r·r.
-fn residual(floats: &mut [f64], at: Vectors, b: usize, n: usize) -> f64
-    requires { Placed.Reads (length floats.old) at b n }
-    ensures { Placed.Resides floats.old floats.new at b n result }
+// b less the product, at r and at p; the product is cleared. Answers r·r.
+fn residual(b: &[f64], r: &mut [f64], p: &mut [f64], product: &mut [f64]) -> f64
+    requires { Passes.AsLong (length b.now) r.old p.old product.old }
+    ensures resides { Passes.Resides b.now product.old r.new p.new result }
+    ensures cleared { product.new ≡ replicate (length b.now) plus_zero }
 {
     let mut total = 0.0;
-    for i in 0..n {
-        let a = b + i;
-        let c = at.r + i;
-        let d = at.p + i;
-        let e = at.product + i;
-        let v = floats[a] - floats[e];
-        floats[c] = v;
-        floats[d] = v;
-        floats[e] = 0.0;
+    for (i, right) in b.iter().enumerate() {
+        let v = *right - product[i];
+        r[i] = v;
+        p[i] = v;
+        product[i] = 0.0;
         total = total + v * v;
     }
     total
 }
 
-// Place 0 for the right side from b. Answers r·r.
-pub fn begin(floats: &mut [f64], words: &[u32], m: Csr, at: Vectors, b: usize) -> f64
-    requires { Placed.Starts words.now (length floats.old) m at b }
-    ensures { Placed.Begun floats.old floats.new m.rows at (Placed.start_of words.now floats.old m b) result }
+// Place 0 for the right side b. Answers r·r.
+pub fn begin(
+    a: &Matrix,
+    b: &[f64],
+    x: &mut [f64],
+    r: &mut [f64],
+    p: &mut [f64],
+    product: &mut [f64],
+) -> f64
+    requires { Passes.AsLong (rows a.now) x.old r.old p.old × (length product.old ≡ rows a.now) × (length b.now ≡ rows a.now) }
+    ensures begun { Passes.Begins (begun (matrix_of a.now) b.now) x.new r.new p.new result }
+    ensures cleared { product.new ≡ replicate (rows a.now) plus_zero }
 {
-    let n = m.rows;
-    let x = at.x;
-    let q = at.product;
-    stretch::fill(floats, x, n, 0.0);
-    sparse::product(floats, words, m, q, x);
-    residual(floats, at, b, n)
+    x.fill(0.0);
+    a.product(x, product);
+    residual(b, r, p, product)
 }
 
-// ---- a pass on vectors in a buffer of their own: x, r and p one after the other
-
-// Element i of the product of the matrix with p.
-fn product_at(vectors: &[f64], floats: &[f64], words: &[u32], m: Csr, i: usize) -> f64
-    requires { Beside.Beside words.now (length floats.now) m (length vectors.now) × (i < m.rows) }
-    ensures { result ≡ get_or (Beside.product_of words.now floats.now m vectors.now) i nan }
-{
-    let p = 2 * m.rows;
-    let p_end = p + m.rows;
-    sparse::row_with(floats, words, m, &vectors[p..p_end], i)
-}
+// ---- a pass beside, with no room for the product, whose elements are worked out where they are needed
 
 // p·Ap.
-fn curvature(vectors: &[f64], floats: &[f64], words: &[u32], m: Csr) -> f64
-    requires { Beside.Beside words.now (length floats.now) m (length vectors.now) }
-    ensures { result ≡ Vec.dot (part vectors.now (2 * m.rows) m.rows) (Beside.product_of words.now floats.now m vectors.now) }
+fn curvature(a: &Matrix, p: &[f64]) -> f64
+    requires { length p.now ≡ rows a.now }
+    ensures { result ≡ Vec.dot p.now (mat_vec (matrix_of a.now) p.now) }
 {
-    let n = m.rows;
     let mut pap = 0.0;
-    for i in 0..n {
-        let q = product_at(vectors, floats, words, m, i);
-        let k = 2 * n + i;
-        pap = pap + vectors[k] * q;
+    for (i, along) in p.iter().enumerate() {
+        pap = pap + *along * a.row_product(i, p);
     }
     pap
 }
 
-// x + alpha p and r − alpha q, where q is the product, worked out again. Answers the new r·r.
-fn step_beside(vectors: &mut [f64], floats: &[f64], words: &[u32], m: Csr, alpha: f64) -> f64
-    requires { Beside.Beside words.now (length floats.now) m (length vectors.old) }
-    ensures { Beside.SteppedBeside vectors.old vectors.new (Beside.product_of words.now floats.now m vectors.old) m.rows alpha m.rows result }
+// x + alpha p and r − alpha q, where q is the product, worked out again. Answers the new r·r. Apart from `step`, which clears the product in its loop.
+fn step_beside(a: &Matrix, x: &mut [f64], r: &mut [f64], p: &[f64], alpha: f64) -> f64
+    requires { Passes.AsLong (rows a.now) x.old r.old p.now }
+    ensures { Passes.Stepped x.old r.old p.now (mat_vec (matrix_of a.now) p.now) alpha x.new r.new result }
 {
-    let n = m.rows;
     let mut square = 0.0;
-    for i in 0..n {
-        let q = product_at(vectors, floats, words, m, i);
-        let b = n + i;
-        let c = 2 * n + i;
-        let u = vectors[i] + alpha * vectors[c];
-        let v = vectors[b] - alpha * q;
-        vectors[i] = u;
-        vectors[b] = v;
+    for (i, along) in p.iter().enumerate() {
+        let q = a.row_product(i, p);
+        let v = r[i] - alpha * q;
+        x[i] = x[i] + alpha * *along;
+        r[i] = v;
         square = square + v * v;
     }
     square
 }
 
-// One pass from the vectors, with rs = r·r; the matrix stands in the floats and the words.
+// One pass with rs = r·r, as `one_pass`, and no product.
 pub fn pass_beside(
-    vectors: &mut [f64],
-    floats: &[f64],
-    words: &[u32],
-    m: Csr,
+    a: &Matrix,
+    x: &mut [f64],
+    r: &mut [f64],
+    p: &mut [f64],
     tiny: f64,
     tolerance: f64,
     rs: f64,
 ) -> Pass
-    requires { Beside.Beside words.now (length floats.now) m (length vectors.old) }
-    ensures { Beside.PassedBeside vectors.old vectors.new m.rows
-        (Beside.turn_beside words.now floats.now m vectors.old tiny tolerance rs) result }
+    requires { Passes.AsLong (rows a.now) x.old r.old p.old }
+    ensures { Passes.Passes (matrix_of a.now) tiny tolerance (Passes.solve x.old r.old p.old rs) x.new r.new p.new result }
 {
-    let n = m.rows;
-    let pap = curvature(vectors, floats, words, m);
+    let pap = curvature(a, p);
     if binary64::abs(pap) < tiny {
         return Pass::Halted;
     }
-    let square = step_beside(vectors, floats, words, m, rs / pap);
+    let square = step_beside(a, x, r, p, rs / pap);
     let norm = root::sqrt(square);
     if norm < tolerance {
         return Pass::Reached(norm);
     }
-    direct(vectors, n, 2 * n, n, square / rs);
+    direct(r, p, square / rs);
     Pass::Moved(square, norm)
+}
+
+// ---- vectors that stand one after the other in a slice: x, r, p and the product
+
+// One pass, where x and r, and p and the product, are the halves of slices.
+fn pass_on_halves(
+    a: &Matrix,
+    xr: &mut [f64],
+    pq: &mut [f64],
+    n: usize,
+    tiny: f64,
+    tolerance: f64,
+    rs: f64,
+) -> Pass
+    requires { (n ≡ rows a.now) × (length xr.old ≡ 2 * n) × (length pq.old ≡ 2 * n) }
+    ensures passed { Passes.Passes (matrix_of a.now) tiny tolerance (Passes.solve (take n xr.old) (drop n xr.old) (take n pq.old) rs) (take n xr.new) (drop n xr.new) (take n pq.new) result }
+    ensures cleared { drop n pq.new ≡ replicate n plus_zero }
+{
+    let (x, r) = xr.split_at_mut(n);
+    let (p, product) = pq.split_at_mut(n);
+    one_pass(a, x, r, p, product, tiny, tolerance, rs)
+}
+
+// One pass.
+pub fn pass_in_row(
+    a: &Matrix,
+    vectors: &mut [f64],
+    n: usize,
+    tiny: f64,
+    tolerance: f64,
+    rs: f64,
+) -> Pass
+    requires { (n ≡ rows a.now) × (length vectors.old ≡ 4 * n) }
+    ensures { Placed.Passed vectors.old vectors.new n (Placed.row_of n)
+        (pass tiny (matrix_of a.now) tolerance (Placed.read vectors.old (Placed.row_of n) n rs)) result }
+{
+    let half = 2 * n;
+    let (xr, pq) = vectors.split_at_mut(half);
+    pass_on_halves(a, xr, pq, n, tiny, tolerance, rs)
+}
+
+// Place 0, where x and r, and p and the product, are the halves of slices.
+fn begin_on_halves(a: &Matrix, b: &[f64], xr: &mut [f64], pq: &mut [f64], n: usize) -> f64
+    requires { (n ≡ rows a.now) × (length b.now ≡ n) × (length xr.old ≡ 2 * n) × (length pq.old ≡ 2 * n) }
+    ensures begun { Passes.Begins (begun (matrix_of a.now) b.now) (take n xr.new) (drop n xr.new) (take n pq.new) result }
+    ensures cleared { drop n pq.new ≡ replicate n plus_zero }
+{
+    let (x, r) = xr.split_at_mut(n);
+    let (p, product) = pq.split_at_mut(n);
+    begin(a, b, x, r, p, product)
+}
+
+// Place 0 for the right side b. Answers r·r.
+pub fn begin_in_row(a: &Matrix, b: &[f64], vectors: &mut [f64], n: usize) -> f64
+    requires { (n ≡ rows a.now) × (length b.now ≡ n) × (length vectors.old ≡ 4 * n) }
+    ensures { Placed.Begun vectors.old vectors.new n (Placed.row_of n) (begun (matrix_of a.now) b.now) result }
+{
+    let half = 2 * n;
+    let (xr, pq) = vectors.split_at_mut(half);
+    begin_on_halves(a, b, xr, pq, n)
+}
+
+// One pass beside, where r and p are the halves of a slice.
+fn beside_on_halves(
+    a: &Matrix,
+    x: &mut [f64],
+    rp: &mut [f64],
+    n: usize,
+    tiny: f64,
+    tolerance: f64,
+    rs: f64,
+) -> Pass
+    requires { (n ≡ rows a.now) × (length x.old ≡ n) × (length rp.old ≡ 2 * n) }
+    ensures { Passes.Passes (matrix_of a.now) tiny tolerance (Passes.solve x.old (take n rp.old) (drop n rp.old) rs) x.new (take n rp.new) (drop n rp.new) result }
+{
+    let (r, p) = rp.split_at_mut(n);
+    pass_beside(a, x, r, p, tiny, tolerance, rs)
+}
+
+// One pass beside: the vectors are x, r and p.
+pub fn pass_beside_in_row(
+    a: &Matrix,
+    vectors: &mut [f64],
+    n: usize,
+    tiny: f64,
+    tolerance: f64,
+    rs: f64,
+) -> Pass
+    requires { (n ≡ rows a.now) × (length vectors.old ≡ 3 * n) }
+    ensures { Beside.PassedBeside vectors.old vectors.new n (pass tiny (matrix_of a.now) tolerance (Beside.vectors_of vectors.old n rs)) result }
+{
+    let (x, rp) = vectors.split_at_mut(n);
+    beside_on_halves(a, x, rp, n, tiny, tolerance, rs)
 }

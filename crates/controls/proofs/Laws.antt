@@ -1,10 +1,10 @@
 -- What each way through a call comes to. Assumes nothing.
-use Prim.Native.Nat.{ℕ, zero, suc, ◌≤◌, ◌<◌}
+use Prim.Native.Nat.{ℕ, zero, suc, ◌≤◌}
 use native.Mathlib.Omega.{arith}
 use mathlib.Core.Bool.{Bool, true, false, ◌&&◌}
 use mathlib.Core.Path.{◌≡◌, refl, sym, ap, ◌∙◌}
 use mathlib.Core.List.{List, []}
-use borrow.Author.Tests.{ne_eqb, leb-true, le-leb, lt-leb}
+use borrow.Author.Tests.{ne_eqb, leb-true, le-leb}
 use lib.Dec.{eqb, leb}
 use lib.ListN.{length, set}
 use lib.Ieee.{Float}
@@ -21,7 +21,7 @@ use Rattle.model.specs.Task.{task}
 use Rattle.model.specs.Machine.{Call, fresh, needs, short}
 use Rattle.work.specs.declared.Run.{Run}
 use Rattle.work.specs.Record.{no_run}
-use Rattle.image.specs.declared.Answer.{Answer}
+use Rattle.image.specs.Answer.{Answer}
 use Rattle.image.specs.Calls.{Buffers, held_fault, late_fault, fault, run_after, buffers_after, Does}
 use Rattle.image.proofs.AcceptedLaws.{then_first, then_second, then_none}
 use Rattle.image.specs.Image.{run_of, image, rest_of}
@@ -31,7 +31,7 @@ use Rattle.image.specs.CallLaws.{lacking}
 use Rattle.image.proofs.ReplayTheorem.{replayed-refused}
 use Rattle.image.specs.Shown.{lengths_of}
 use Rattle.records.specs.Numbers.{fits, flagged, run_from, wholes_run, reals_run}
-use Rattle.controls.specs.Controls.{flag_fault, held_fault_in, fault_in, refusal_or8, open_fault_in, length_fault_in, needed_by, needed_fault, OpenedIn, Called, Measured, start_by, HandedBy, Needed}
+use Rattle.controls.specs.Controls.{flag_fault, held_fault_in, fault_in, refusal_or8, open_fault_in, length_fault_in, needed_by, needed_fault, OpenedIn, Called, Measured, Needed}
 
 -- a flag's fault is one
 flag_refuses : (k : ℕ) → flag_fault k ≡ 0 → ⊥
@@ -194,19 +194,6 @@ module _ (ns : List ℕ) (xs : List Float) (b : Buffers) (out : List Float) wher
         let g : length_fault_in ns xs b out ≡ 0 = late ∙ rw (le-leb 1 (length out) f) in
         record { said = sym g; left = rw (g, h) }
 
--- ---- a part
-
--- where it is handed out there are two places
-pub hand_places : (f : Bool) (k : ℕ) → (f && leb 2 k) ≡ true → 2 ≤ k
-hand_places f k e = leb-true 2 k (both f (leb 2 k) e).1
-
-module _ (at count : ℕ) (fit : Bool) (out : List ℕ) where
-  pub hand_refused : {f : Bool} → f ≡ fit → (f && leb 2 (length out)) ≡ false → HandedBy at count fit out 8 out
-  hand_refused s e = rw (← s) (record { said = rw e; left = rw e })
-
-  pub hand_made : {f : Bool} → f ≡ fit → (f && leb 2 (length out)) ≡ true → (start : ℕ) → start ≡ start_by at count → HandedBy at count fit out 0 (set (set out 0 start) 1 count)
-  hand_made s e start h = rw (← s) (record { said = rw e; left = rw (e, h) })
-
 -- ---- the space rule
 
 -- counts and settings that a sheet may have, and places for the answer
@@ -236,25 +223,6 @@ asked n t limit room places h =
     nothing : (t : Bool) (k : ℕ) → pick t 0 (suc k) ≡ 0 → t ≡ true
     nothing true k e = refl
     nothing false k e = absurd (omega (arith, e))
-
-module _ (n t limit room places : ℕ) where
-  pub needed_counts : (leb n max_vertices && leb t max_triangles) ≡ false → 2 ≡ needed_by n t limit room places
-  unfolding needed_by
-  needed_counts e = rw e
-
-  module _ (e : (leb n max_vertices && leb t max_triangles) ≡ true) where
-    pub needed_settings : (leb limit max_limit && (leb 1 room && leb room max_room)) ≡ false → 7 ≡ needed_by n t limit room places
-    unfolding needed_by
-    needed_settings f = rw (e, f)
-
-    module _ (f : (leb limit max_limit && (leb 1 room && leb room max_room)) ≡ true) where
-      pub needed_told : 3 ≤ places → 0 ≡ needed_by n t limit room places
-      unfolding needed_by
-      needed_told h = rw (e, f, le-leb 3 places h)
-
-      pub needed_short : places < 3 → 8 ≡ needed_by n t limit room places
-      unfolding needed_by
-      needed_short h = rw (e, f, lt-leb 3 places h)
 
 module _ (n t limit room : ℕ) (out : List ℕ) where
   pub needed_refused : (k : ℕ) → k ≡ needed_fault n t limit room out → (k ≡ 0 → ⊥) → Needed n t limit room out k out

@@ -11,7 +11,7 @@ use Rattle.work.specs.Layout.{at_x, at_gradients, at_norms}
 use Rattle.image.specs.Calls.{Buffers, held_fault, late_fault, run_after, buffers_after}
 use Rattle.image.specs.Points.{points_of}
 use Rattle.image.specs.Replay.{opened}
-use Rattle.sheet.specs.declared.Checked.{Checked}
+use Rattle.sheet.specs.Answer.{Checked, Accepted, Refused}
 use Rattle.records.specs.Numbers.{fits, flagged, run_from, wholes_run, reals_run}
 
 -- ---- what refuses
@@ -34,8 +34,8 @@ open_fault_in sheet ns xs b = (opened sheet b).answer.refused then pick (fits ns
 
 -- what refuses a sheet, or 8
 abbrev pub refusal_or8 : Checked → ℕ
-refusal_or8 (Checked.Refused k) = k
-refusal_or8 (Checked.Accepted h) = 8
+refusal_or8 (Refused k) = k
+refusal_or8 (Accepted h) = 8
 
 -- the length: as a call, then 8 where there is no place for it
 unfoldable pub length_fault_in : List ℕ → List Float → Buffers → List Float → ℕ

@@ -2,21 +2,17 @@
 use Prim.Native.Nat.{ℕ, ◌+◌, ◌-◌, ◌*◌, ◌≤◌, ◌<◌}
 use mathlib.Core.Path.{◌≡◌, refl, sym, ap, ap₂, ◌∙◌, subst}
 use mathlib.Core.List.{List}
-use native.Mathlib.Nat.{zero-add}
 use native.Mathlib.Numerals.{add-one}
 use native.Mathlib.Omega.{arith}
 use borrow.Author.Tests.{eq-eqb}
-use lib.Dec.{leb}
-use lib.ListN.{length, get_or, set, replicate}
+use lib.ListN.{length, replicate}
 use lib.Seq.{length-take-le}
-use lib.Ieee.{Float, nan}
+use lib.Ieee.{Float}
 use Rattle.binary64.specs.Constants.{plus_zero}
-use Rattle.binary64.specs.Number.{pick}
-use Rattle.stretch.specs.Stretch.{part, splice}
-use Rattle.stretch.specs.StretchLaws.{length_part, length-splice, part_zero, part_suc, part_part, part_of_take, part_splice-same, splice_comm}
-use Rattle.stretch.proofs.LoopLaws.{write_none, write_step}
-use Rattle.sparse.specs.declared.Csr.{Csr}
-use Rattle.sparse.specs.Stored.{matrix}
+use Rattle.stretch.specs.Stretch.{part}
+use Rattle.stretch.specs.StretchLaws.{length_part, part_part, part_of_take, splice_comm}
+use Rattle.sparse.specs.Sparse.{Entry}
+use Rattle.sparse.specs.Stored.{matrix, CsrAt}
 use Rattle.sparse.specs.ProductLaws.{length-rows_of, matrix_kept}
 use Rattle.mesh.specs.Element.{flat}
 use Rattle.conjugate.specs.declared.Pass.{Pass}
@@ -24,52 +20,19 @@ use Rattle.conjugate.specs.Solver.{Solve, Turn, halted, reached, moved}
 use Rattle.conjugate.specs.SolverLaws.{Long, after, after_long}
 use Rattle.conjugate.specs.Placed.{InRow, placed, stored_after, answer_of}
 use Rattle.conjugate.specs.PlacedLaws.{Holds, holds_placed, stored_placed}
-use Rattle.conjugate.specs.Beside.{Beside, vectors_of, left_by, PassedBeside, turn_beside}
+use Rattle.conjugate.specs.Beside.{vectors_of, left_by}
 use Rattle.conjugate.specs.BesideLaws.{Vectored, passed_vectored}
 use Rattle.pde.specs.declared.Walk.{Walk}
 use Rattle.work.specs.declared.Plan.{Plan}
 use Rattle.work.specs.declared.Stand.{Stand}
 use Rattle.work.specs.Layout.{at_x, at_r, at_p, at_product, at_gradients, at_norms, matrix_at, vectors_at}
-use Rattle.work.specs.Memory.{Stepped, vectors_in, solved_stand, solved_step, solve_step, next_of, step_on, front_of, dry}
+use Rattle.work.specs.Memory.{Stepped, vectors_in, solved_step, solve_step, next_of, step_on, front_of, dry}
 use Rattle.work.specs.Dry.{dry_at, Counts}
 use Rattle.work.specs.Ready.{Ready, Standing}
 use Rattle.work.specs.StandingLaws.{turn_of, step_standing, unsolved_norms}
 use Rattle.dry.specs.Solving.{turn_on, turned_stand, Solvable, Turns, Copied, Solved}
 
--- ---- a copy of one stretch of a buffer to another
-
-pub copy_none : (to from : List Float) (at src : ℕ) → to ≡ splice to at (part from src 0)
-copy_none to from at src = rw part_zero (write_none to at)
-
-pub copy_more : (to from l : List Float) (at src n i : ℕ) → src + n ≤ length from → i < n → l ≡ splice to at (part from src i)
-    → set l (at + i) (get_or from (src + i) nan) ≡ splice to at (part from src (i + 1))
-copy_more to from l at src n i f h p =
-    let k : src + i < length from = omega arith in
-    rw (add-one, part_suc from src i nan k) (write_step to l at i (part from src i) (get_or from (src + i) nan) (length_part from src i (omega arith)) p)
-
 -- ---- one pass
-
-pub solvable_beside : (plan : Plan) (words : List ℕ) (l k : ℕ) (m : Csr) (s : Stand) → Solvable plan words l k s → m ≡ matrix_at plan.n plan.t → Beside words l m k
-solvable_beside plan words l k m s h e = rw e (record { sound = h.ready.sound; values_fit = omega (arith, h.floats_fit); vectors_fit = h.copies_fit })
-
-pub solvable_norms : {plan : Plan} {words : List ℕ} {l k : ℕ} {s : Stand} → Solvable plan words l k s → s.norms ≤ 100000
-solvable_norms {plan} {words} {l} {k} {s} h = omega (arith, unsolved_norms plan s h.standing h.solving, h.ready.limit-most)
-
-module _ (plan : Plan) (s r : Stand) (a : Pass) where
-  pub turned_halted : a ≡ Pass.Halted → r ≡ solved_stand s s.rs s.norms 2 → r ≡ turned_stand plan s a
-  turned_halted e h = rw e h
-
-  pub turned_reached : (norm : Float) → a ≡ Pass.Reached norm → r ≡ solved_stand s s.rs (s.norms + 1) 1 → r ≡ turned_stand plan s a
-  turned_reached norm e h = rw e h
-
-  pub turned_moved : (rs norm : Float) (end : ℕ) → a ≡ Pass.Moved rs norm → end ≡ pick (leb plan.limit s.norms) 3 0 → r ≡ solved_stand s rs (s.norms + 1) end → r ≡ turned_stand plan s a
-  turned_moved rs norm end e ee h = rw e (h ∙ ap (solved_stand s rs (s.norms + 1)) ee)
-
-pub turns : (plan : Plan) (words : List ℕ) (floats v l : List Float) (m : Csr) (s r : Stand) (answer : Pass) → m ≡ matrix_at plan.n plan.t
-    → PassedBeside v l m.rows (turn_beside words floats m v flat plan.tolerance s.rs) answer → r ≡ turned_stand plan s answer → Turns plan words floats v s r l
-turns plan words floats v l m s r answer e p es =
-    let q : PassedBeside v l plan.n (turn_on plan words floats v s) answer = rw e at p in
-    record { stand = es ∙ ap (turned_stand plan s) q.said; vectors = q.left }
 
 -- what the answer tells of the stand
 solved_turned : (plan : Plan) (s : Stand) (f : List Float) (t : Turn) → (solved_step plan s f t).stand ≡ turned_stand plan s (answer_of t)
@@ -105,13 +68,13 @@ module _ (plan : Plan) (f : List Float) (s : Stand) (long : length f ≡ at_norm
 -- ---- a pass on the front and on the copies
 
 module _ (plan : Plan) (words : List ℕ) (f floats v : List Float) (s : Stand) (c : Copied plan words f floats v) where
-  abbrev M : Csr
+  abbrev M : CsrAt
   M = matrix_at plan.n plan.t
 
   vectors_same : vectors_in plan.n plan.t f s.rs ≡ vectors_of v plan.n s.rs
   vectors_same = rw (c.x_same, c.r_same, c.p_same)
 
-  turn_same : turn_of plan words f s ≡ turn_on plan words floats v s
+  turn_same : turn_of plan words f s ≡ turn_on plan (matrix words floats (matrix_at plan.n plan.t)) v s
   turn_same = rw (c.matrix-same, vectors_same)
 
   holds : Holds f (solved_step plan s f (turn_of plan words f s)).front plan.n (vectors_at plan.n plan.t) (after (vectors_in plan.n plan.t f s.rs) (turn_of plan words f s))
@@ -124,18 +87,18 @@ module _ (plan : Plan) (words : List ℕ) (f floats v : List Float) (s : Stand) 
       (record { x_long = length_part f (at_x n t) n (omega arith); r_long = length_part f (at_r n t) n (omega arith); p_long = length_part f (at_p n t) n (omega arith) }) in
       rw (front-placed plan f s e (turn_of plan words f s) long) (holds_placed f n (vectors_at n t) _ (row plan f s e) long)
 
-  copied_again : Ready plan words → 3 * plan.n ≤ length v → Copied plan words (solved_step plan s f (turn_of plan words f s)).front floats (left_by plan.n v (turn_on plan words floats v s))
+  copied_again : Ready plan words → 3 * plan.n ≤ length v → Copied plan words (solved_step plan s f (turn_of plan words f s)).front floats (left_by plan.n v (turn_on plan (matrix words floats (matrix_at plan.n plan.t)) v s))
   copied_again r fits =
       let n : ℕ = plan.n in
       let t : ℕ = plan.t in
       let f' : List Float = (solved_step plan s f (turn_of plan words f s)).front in
       let h = holds in
-      let w : Vectored (left_by n v (turn_on plan words floats v s)) n (after (vectors_of v n s.rs) (turn_on plan words floats v s)) =
+      let w : Vectored (left_by n v (turn_on plan (matrix words floats (matrix_at plan.n plan.t)) v s)) n (after (vectors_of v n s.rs) (turn_on plan (matrix words floats (matrix_at plan.n plan.t)) v s)) =
       passed_vectored words floats M v flat plan.tolerance s.rs fits in
-      let same : after (vectors_in n t f s.rs) (turn_of plan words f s) ≡ after (vectors_of v n s.rs) (turn_on plan words floats v s) = ap₂ after vectors_same turn_same in
-      let x : part f' (at_x n t) n ≡ (after (vectors_of v n s.rs) (turn_on plan words floats v s)).x = ap (λ (u : Solve). u.x) (h.vectors ∙ same) in
-      let q : part f' (at_r n t) n ≡ (after (vectors_of v n s.rs) (turn_on plan words floats v s)).r = ap (λ (u : Solve). u.r) (h.vectors ∙ same) in
-      let p : part f' (at_p n t) n ≡ (after (vectors_of v n s.rs) (turn_on plan words floats v s)).p = ap (λ (u : Solve). u.p) (h.vectors ∙ same) in
+      let same : after (vectors_in n t f s.rs) (turn_of plan words f s) ≡ after (vectors_of v n s.rs) (turn_on plan (matrix words floats (matrix_at plan.n plan.t)) v s) = ap₂ after vectors_same turn_same in
+      let x : part f' (at_x n t) n ≡ (after (vectors_of v n s.rs) (turn_on plan (matrix words floats (matrix_at plan.n plan.t)) v s)).x = ap (λ (u : Solve). u.x) (h.vectors ∙ same) in
+      let q : part f' (at_r n t) n ≡ (after (vectors_of v n s.rs) (turn_on plan (matrix words floats (matrix_at plan.n plan.t)) v s)).r = ap (λ (u : Solve). u.r) (h.vectors ∙ same) in
+      let p : part f' (at_p n t) n ≡ (after (vectors_of v n s.rs) (turn_on plan (matrix words floats (matrix_at plan.n plan.t)) v s)).p = ap (λ (u : Solve). u.p) (h.vectors ∙ same) in
       record {
         matrix-same = matrix_kept words f f' M r.sound (h.before (4 * n) (9 * t + n) (omega arith)) ∙ c.matrix-same;
         vertices_same = h.before 0 (2 * n) (omega arith) ∙ c.vertices_same;
@@ -153,21 +116,14 @@ module _ (plan : Plan) (words : List ℕ) (f floats v : List Float) (s : Stand) 
 -- ---- passes in a row
 
 module _ (plan : Plan) (words : List ℕ) (floats : List Float) (s : Stand) where
-  pub solved_none : Ready plan words → Standing plan s → s.walk.end ≡ 0 → (x : ℕ) → x ≡ at_x plan.n plan.t → at_norms plan.n plan.t ≤ length floats → (v v' : List Float) → 3 * plan.n ≤ length v'
-      → v' ≡ splice v 0 (part floats x (3 * plan.n)) → Solved plan words floats s 0 s v'
+  pub solved_none : Ready plan words → Standing plan s → s.walk.end ≡ 0 → at_norms plan.n plan.t ≤ length floats → (v : List Float) → v ≡ part floats (at_x plan.n plan.t) (3 * plan.n)
+      → Solved plan words floats s 0 s v
   unfolding dry
-  solved_none r st e x ex h v v' fits is =
+  solved_none r st e h v is =
       let n : ℕ = plan.n in
       let t : ℕ = plan.t in
-      let m : List Float = part floats (at_x n t) (3 * n) in
-      let as_long : length v' ≡ length v = ap length is ∙ length-splice v 0 (part floats x (3 * n)) in
-      let lm : length m ≡ 3 * n = length_part floats (at_x n t) (3 * n) (omega arith) in
-      let whole : part v' 0 (3 * n) ≡ m = ap (λ (w : List Float). part w 0 (3 * n)) (is ∙ ap (λ (o : ℕ). splice v 0 (part floats o (3 * n))) ex) ∙ part_splice-same v 0 m (3 * n) lm (omega arith) in
-      let sub : (at : ℕ) → at + n ≤ 3 * n → part v' at n ≡ part floats (at_x n t + at) n =
-      λ at k. ap (λ (o : ℕ). part v' o n) (sym (zero-add at)) ∙ sym (part_part v' 0 (3 * n) at n k) ∙ ap (λ (w : List Float). part w at n) whole ∙ part_part floats (at_x n t) (3 * n) at n k in
-      let a0 : at_x n t + 0 ≡ at_x n t = omega arith in
-      let a1 : at_x n t + n ≡ at_r n t = omega arith in
-      let a2 : at_x n t + 2 * n ≡ at_p n t = omega arith in
+      let sub : (at c : ℕ) → c ≡ at_x n t + at → at + n ≤ 3 * n → part floats c n ≡ part v at n =
+      λ at c ec k. ap (λ (o : ℕ). part floats o n) ec ∙ sym (part_part floats (at_x n t) (3 * n) at n k) ∙ ap (λ (w : List Float). part w at n) (sym is) in
       let front : (at k : ℕ) → at + k ≤ at_norms n t → part (front_of plan floats) at k ≡ part floats at k = λ at k q. part_of_take floats (at_norms n t) at k q in
       record {
         place = omega arith;
@@ -175,9 +131,9 @@ module _ (plan : Plan) (words : List ℕ) (floats : List Float) (s : Stand) wher
         copied = record {
           matrix-same = matrix_kept words floats (front_of plan floats) (matrix_at n t) r.sound (front (4 * n) (9 * t + n) (omega arith));
           vertices_same = front 0 (2 * n) (omega arith);
-          x_same = front (at_x n t) n (omega arith) ∙ ap (λ (o : ℕ). part floats o n) (sym a0) ∙ sym (sub 0 (omega arith));
-          r_same = front (at_r n t) n (omega arith) ∙ ap (λ (o : ℕ). part floats o n) (sym a1) ∙ sym (sub n (omega arith));
-          p_same = front (at_p n t) n (omega arith) ∙ ap (λ (o : ℕ). part floats o n) (sym a2) ∙ sym (sub (2 * n) (omega arith));
+          x_same = front (at_x n t) n (omega arith) ∙ sub 0 (at_x n t) (omega arith) (omega arith);
+          r_same = front (at_r n t) n (omega arith) ∙ sub n (at_r n t) (omega arith) (omega arith);
+          p_same = front (at_p n t) n (omega arith) ∙ sub (2 * n) (at_p n t) (omega arith) (omega arith);
           gradients-same = front (at_gradients n t) (2 * t) (omega arith);
           long = length-take-le _ _ h;
         };
@@ -185,10 +141,11 @@ module _ (plan : Plan) (words : List ℕ) (floats : List Float) (s : Stand) wher
         unended = e;
       }
 
-  pub solved-more : (i : ℕ) (r r' : Stand) (v v' : List Float) → Ready plan words → 3 * plan.n ≤ length v → r.end ≡ 0 → Solved plan words floats s i r v → Turns plan words floats v r r' v'
-      → Solved plan words floats s (i + 1) r' v'
+  pub solved-more : (i : ℕ) (r r' : Stand) (v v' : List Float) (mat : List (List Entry)) → Ready plan words → mat ≡ matrix words floats (matrix_at plan.n plan.t) → 3 * plan.n ≤ length v → r.end ≡ 0
+      → Solved plan words floats s i r v → Turns plan mat v r r' v' → Solved plan words floats s (i + 1) r' v'
   unfolding dry
-  solved-more i r r' v v' rd fits z d tu =
+  solved-more i r r' v v' mat rd em fits z d turn =
+      let tu : Turns plan (matrix words floats (matrix_at plan.n plan.t)) v r r' v' = rw em at turn in
       let f : List Float = (dry plan words i (dry_at plan floats s)).front in
       let c : Copied plan words f floats v = d.copied in
       let step : step_on plan words f (dry plan words i (dry_at plan floats s)).stand ≡ solved_step plan r f (turn_of plan words f r) =
@@ -198,14 +155,14 @@ module _ (plan : Plan) (words : List ℕ) (floats : List Float) (s : Stand) wher
       ∙ solved_turned plan r f (turn_of plan words f r)
       ∙ ap (λ (t : Turn). turned_stand plan r (answer_of t)) (turn_same plan words f floats v r c)
       ∙ sym tu.stand in
-      let place : r'.place ≡ r.place + 1 = ap (λ (x : Stand). x.place) tu.stand ∙ turned_place plan r (answer_of (turn_on plan words floats v r)) in
+      let place : r'.place ≡ r.place + 1 = ap (λ (x : Stand). x.place) tu.stand ∙ turned_place plan r (answer_of (turn_on plan (matrix words floats (matrix_at plan.n plan.t)) v r)) in
       let h = d.place in
       rw add-one (record {
         place = omega arith;
         stand = sym stand;
         copied = rw (ap (λ (x : Stepped). x.front) step, tu.vectors) (copied_again plan words f floats v r c rd fits);
         standing = subst (Standing plan) stand (step_standing plan words f (dry plan words i (dry_at plan floats s)).stand rd (subst (Standing plan) d.stand d.standing));
-        unended = ap (λ (x : Stand). x.walk.end) tu.stand ∙ ap (λ (w : Walk). w.end) (turned_walk plan r (answer_of (turn_on plan words floats v r))) ∙ d.unended;
+        unended = ap (λ (x : Stand). x.walk.end) tu.stand ∙ ap (λ (w : Walk). w.end) (turned_walk plan r (answer_of (turn_on plan (matrix words floats (matrix_at plan.n plan.t)) v r))) ∙ d.unended;
       })
 
   -- how many passes were made, by the places
@@ -216,13 +173,10 @@ module _ (plan : Plan) (words : List ℕ) (floats : List Float) (s : Stand) wher
       let e : r.place - s.place ≡ i = omega arith in
       (rw e d, omega arith, λ z. omega (arith, all z))
 
-  pub solved-next : (k i : ℕ) (r : Stand) (v : List Float) → Counts plan words s k floats → i < k → r.end ≡ 0 → 3 * plan.n ≤ length v → Solved plan words floats s i r v
-      → Solvable plan words (length floats) (length v) r
-  solved-next k i r v c h z fits d = record {
-    ready = c.ready;
-    standing = d.standing;
-    solving = z;
+  pub solved-next : (k i m l : ℕ) (r : Stand) (v : List Float) → Counts plan words s k floats → i < k → r.end ≡ 0 → m ≡ plan.n → l ≡ 3 * plan.n → Solved plan words floats s i r v → Solvable plan m l r
+  solved-next k i m l r v c h z em el d = record {
+    many = em;
+    long = el;
     near = omega (arith, c.near, d.place);
-    floats_fit = omega (arith, c.floats_fit);
-    copies_fit = fits;
+    norms_few = omega (arith, unsolved_norms plan r d.standing z, c.ready.limit-most);
   }

@@ -1,47 +1,59 @@
--- The start pass and crossings by a mesh and its field in any buffer, with the gradients as they stand in the lent floats or worked out. Definitions only. Assumes nothing.
-use Rattle.std.specs.Prelude.{◌≡◌, Bool, true, false, List, [], ℕ, ◌+◌, ◌*◌, ◌≤◌, ◌<◌, length, Float}
+-- The start pass and crossings by a field, with the gradients as they are stored or worked out. Definitions only. Assumes nothing.
+use Rattle.std.specs.Prelude.{◌≡◌, List, [], ℕ, ◌+◌, ◌*◌, ◌≤◌, ◌<◌, length, Float, Option, Some, None}
+use denote.Ref.{Bor}
 use Rattle.plane.specs.declared.Point.{Point}
 use Rattle.stretch.specs.Stretch.{part}
-use Rattle.mesh.specs.declared.Mesh.{Mesh}
 use Rattle.mesh.specs.Element.{flat}
-use Rattle.mesh.specs.Work.{vertices_of, triangles_of, neighbours_of, tags_of}
-use Rattle.gradient.specs.Work.{gradient_in}
-use Rattle.pde.specs.Crossing.{gradient_at}
-use Rattle.pde.specs.Work.{Fielded, field_of, gradients_of, crossing_in}
+use Rattle.mesh.specs.Mesh.{triangle_count}
+use Rattle.mesh.specs.Work.{Linked}
+use Rattle.gradient.specs.Gradient.{gradient_on}
+use Rattle.pde.specs.declared.Crossing.{Crossing}
+use Rattle.pde.specs.declared.Entry.{Entry}
+use Rattle.pde.specs.declared.Field.{Field}
+use Rattle.pde.specs.Crossing.{gradient_at, crossing_along}
+use Rattle.pde.specs.Stands.{FieldStands}
 use Rattle.model.specs.Run.{rule}
 use Rattle.work.specs.declared.Plan.{Plan}
 use Rattle.work.specs.declared.Stand.{Stand}
-use Rattle.work.specs.Layout.{at_x, at_gradients, at_norms, at_neighbours, at_tags, mesh_at}
+use Rattle.work.specs.Layout.{at_x, at_gradients, at_norms, mesh_at}
 use Rattle.work.specs.Memory.{set_out_step, crossed_stand, dry}
 use Rattle.work.specs.Dry.{dry_of}
-use Rattle.work.specs.Kinds.{found_in, lost_by}
+use Rattle.work.specs.Kinds.{lost_by}
 use Rattle.work.specs.Ready.{Ready, Standing}
+use Rattle.kinds.specs.Found.{found_on, entry_at}
 
--- ---- one pass; b has the vertices, and the field from u
+-- ---- one pass, by the field d
 
--- the gradient on triangle k: as it stands in the floats, or worked out
-abbrev pub gradient_by : Bool → Plan → List ℕ → List Float → List Float → Mesh → ℕ → ℕ → Point
-gradient_by true plan words floats b m u k = gradient_at (gradients_of floats m (at_gradients plan.n plan.t)) k
-gradient_by false plan words floats b m u k = gradient_in flat b words m u k
+-- the gradient on triangle k: a stored one, or worked out
+abbrev pub gradient_by : Option (Bor (List Float)) → Field → ℕ → Point
+gradient_by (Some gs) d k = gradient_at gs.now k
+gradient_by None d k = gradient_on flat d.mesh.vertices.now d.values.now d.mesh.triangles.now k
+
+-- what crossing a triangle from an entry comes to
+abbrev pub crossing_on : Plan → Field → Point → Entry → Crossing
+crossing_on plan d g at =
+    crossing_along rule d.mesh.vertices.now d.mesh.triangles.now d.mesh.neighbours.now (triangle_count d.mesh.triangles.now) d.values.now g plan.step at.point at.triangle at.edge
 
 -- the stand after a crossing
-abbrev pub crossed_by : Bool → Plan → List ℕ → List Float → List Float → Mesh → ℕ → Stand → Stand
-crossed_by stored plan words floats b m u s =
-    crossed_stand plan s (crossing_in b words m u rule plan.step (gradient_by stored plan words floats b m u s.walk.triangle) s.walk.position s.walk.triangle s.walk.edge)
+abbrev pub crossed_by : Option (Bor (List Float)) → Plan → Field → Stand → Stand
+crossed_by stored plan d s = crossed_stand plan s (crossing_on plan d (gradient_by stored d s.walk.triangle) (entry_at s.walk))
 
 -- the stand after the start pass
-abbrev pub started_by : Plan → List ℕ → List Float → Mesh → ℕ → Stand → Stand
-started_by plan words b m u s = (set_out_step s [] (lost_by plan.start) (found_in b words m u plan.start)).stand
+abbrev pub started_by : Plan → Field → Stand → Stand
+started_by plan d s = (set_out_step s [] (lost_by plan.start) (found_on d plan.start)).stand
 
 -- ---- what they ask
 
--- a mesh of the plan's with its field in b, and l lent floats
-pub record Ground (plan : Plan) (words : List ℕ) (l : ℕ) (b : List Float) (m : Mesh) (u : ℕ) : Type 0 where
-  pub ready : Ready plan words
-  pub fielded : Fielded b words m u
-  pub mesh : m ≡ mesh_at plan.n plan.t
-  pub count : m.t ≡ plan.t
-  pub floats_fit : at_norms plan.n plan.t ≤ l
+-- the gradients that are stored reach to triangle k
+abbrev pub Enough : Option (Bor (List Float)) → ℕ → Type 0
+Enough (Some gs) k = 2 * k + 1 < length gs.now
+Enough None k = Unit
+
+-- a field on the plan's triangles, and gradients on all of them, where they are stored
+pub record Ground (stored : Option (Bor (List Float))) (plan : Plan) (d : Field) : Type 0 where
+  pub t_most : plan.t ≤ 8192
+  pub count : triangle_count d.mesh.triangles.now ≡ plan.t
+  pub enough : (k : ℕ) → k < plan.t → Enough stored k
 
 -- a place of a path that has points
 pub record Going (plan : Plan) (s : Stand) : Type 0 where
@@ -51,22 +63,18 @@ pub record Going (plan : Plan) (s : Stand) : Type 0 where
 
 -- ---- what they are for a front f
 
--- the mesh and the field of f, as they stand in b
-pub record Shows (plan : Plan) (words : List ℕ) (b : List Float) (m : Mesh) (u : ℕ) (f : List Float) : Type 0 where
-  pub count : m.t ≡ plan.t
-  pub vertices : part f 0 (2 * plan.n) ≡ vertices_of b m
-  pub field : part f (at_x plan.n plan.t) plan.n ≡ field_of b m u
-  pub triangles : part words 0 (3 * plan.t) ≡ triangles_of words m
-  pub neighbours : part words (at_neighbours plan.t) (3 * plan.t) ≡ neighbours_of words m
-  pub tags : part words (at_tags plan.t) plan.n ≡ tags_of words m
+-- the field of f, by its slices
+pub record Shows (plan : Plan) (words : List ℕ) (d : Field) (f : List Float) : Type 0 where
+  pub linked : Linked words (mesh_at plan.n plan.t)
+  pub stands : FieldStands f words (mesh_at plan.n plan.t) (at_x plan.n plan.t) d
 
 -- and the gradients of f
-pub record Grades (stored : Bool) (plan : Plan) (words : List ℕ) (floats b : List Float) (m : Mesh) (u : ℕ) (f : List Float) : Type 0 where
-  pub at : (k : ℕ) → k < plan.t → gradient_at (part f (at_gradients plan.n plan.t) (2 * plan.t)) k ≡ gradient_by stored plan words floats b m u k
+pub record Grades (stored : Option (Bor (List Float))) (plan : Plan) (d : Field) (f : List Float) : Type 0 where
+  pub at : (k : ℕ) → k < plan.t → gradient_at (part f (at_gradients plan.n plan.t) (2 * plan.t)) k ≡ gradient_by stored d k
 
--- k crossings from s come to r on every front that the buffers show
-pub record Crossed (stored : Bool) (plan : Plan) (words : List ℕ) (floats b : List Float) (m : Mesh) (u : ℕ) (s : Stand) (k : ℕ) (r : Stand) : Type 0 where
-  pub is : (f : List Float) → Shows plan words b m u f → Grades stored plan words floats b m u f → dry plan words k (dry_of f s) ≡ dry_of f r
+-- k crossings from s come to r on every front that the field and the gradients show
+pub record Crossed (stored : Option (Bor (List Float))) (plan : Plan) (d : Field) (s : Stand) (k : ℕ) (r : Stand) : Type 0 where
+  pub is : (words : List ℕ) (f : List Float) → Shows plan words d f → Grades stored plan d f → dry plan words k (dry_of f s) ≡ dry_of f r
 
 -- ---- after solving
 

@@ -2,24 +2,25 @@
 use Rattle.std.specs.Prelude.{◌≡◌, List, ℕ, ◌+◌, ◌*◌, ◌≤◌, ◌<◌, leb, length, Float}
 use Rattle.binary64.specs.Number.{pick}
 use Rattle.stretch.specs.Stretch.{part}
+use Rattle.sparse.specs.Sparse.{Entry}
 use Rattle.sparse.specs.Stored.{matrix}
 use Rattle.mesh.specs.Element.{flat}
 use Rattle.conjugate.specs.declared.Pass.{Pass}
-use Rattle.conjugate.specs.Solver.{Turn}
+use Rattle.conjugate.specs.Solver.{Turn, pass}
 use Rattle.conjugate.specs.Placed.{answer_of}
-use Rattle.conjugate.specs.Beside.{left_by, turn_beside}
+use Rattle.conjugate.specs.Beside.{vectors_of, left_by}
 use Rattle.work.specs.declared.Plan.{Plan}
 use Rattle.work.specs.declared.Stand.{Stand}
 use Rattle.work.specs.Layout.{at_x, at_r, at_p, at_gradients, at_norms, matrix_at}
 use Rattle.work.specs.Memory.{solved_stand, dry}
 use Rattle.work.specs.Dry.{dry_at}
-use Rattle.work.specs.Ready.{Ready, Standing}
+use Rattle.work.specs.Ready.{Standing}
 
 -- ---- one pass
 
--- what it comes to on the vectors v
-abbrev pub turn_on : Plan → List ℕ → List Float → List Float → Stand → Turn
-turn_on plan words floats v s = turn_beside words floats (matrix_at plan.n plan.t) v flat plan.tolerance s.rs
+-- what it comes to on the vectors v, with the matrix mat
+abbrev pub turn_on : Plan → List (List Entry) → List Float → Stand → Turn
+turn_on plan mat v s = pass flat mat plan.tolerance (vectors_of v plan.n s.rs)
 
 -- the stand after it, by its answer
 abbrev pub turned_stand : Plan → Stand → Pass → Stand
@@ -27,19 +28,17 @@ turned_stand plan s Pass.Halted = solved_stand s s.rs s.norms 2
 turned_stand plan s (Pass.Reached norm) = solved_stand s s.rs (s.norms + 1) 1
 turned_stand plan s (Pass.Moved rs norm) = solved_stand s rs (s.norms + 1) (pick (leb plan.limit s.norms) 3 0)
 
--- it can be made, with l lent floats and k places for the copies
-pub record Solvable (plan : Plan) (words : List ℕ) (l k : ℕ) (s : Stand) : Type 0 where
-  pub ready : Ready plan words
-  pub standing : Standing plan s
-  pub solving : s.end ≡ 0
+-- it can be made, with a matrix of m rows and k places for the copies
+pub record Solvable (plan : Plan) (m k : ℕ) (s : Stand) : Type 0 where
+  pub many : m ≡ plan.n
+  pub long : k ≡ 3 * plan.n
   pub near : s.place < 1000000
-  pub floats_fit : at_norms plan.n plan.t ≤ l
-  pub copies_fit : 3 * plan.n ≤ k
+  pub norms_few : s.norms ≤ 100000
 
 -- it leads from s to r, and from the vectors v to l
-pub record Turns (plan : Plan) (words : List ℕ) (floats v : List Float) (s r : Stand) (l : List Float) : Type 0 where
-  pub stand : r ≡ turned_stand plan s (answer_of (turn_on plan words floats v s))
-  pub vectors : l ≡ left_by plan.n v (turn_on plan words floats v s)
+pub record Turns (plan : Plan) (mat : List (List Entry)) (v : List Float) (s r : Stand) (l : List Float) : Type 0 where
+  pub stand : r ≡ turned_stand plan s (answer_of (turn_on plan mat v s))
+  pub vectors : l ≡ left_by plan.n v (turn_on plan mat v s)
 
 -- ---- passes in a row
 

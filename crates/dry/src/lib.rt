@@ -2,29 +2,20 @@
 #![tactic(auto)]
 
 ghost use Rattle.std.specs.Prelude.{◌≡◌, ◌+◌, ◌-◌, ◌*◌, ◌≤◌, ◌<◌, length};
-ghost use Rattle.stretch.specs.Stretch.{part, splice};
-ghost use Rattle.work.specs.Layout.{at_x, at_norms};
+ghost use Rattle.stretch.specs.Stretch.{part};
+ghost use Rattle.sparse.specs.Matrix.{matrix_of, rows};
+ghost use Rattle.mesh.specs.Mesh.{triangle_count};
+ghost use Rattle.work.specs.Layout.{at_gradients, at_norms};
 ghost use Rattle.work.specs.Memory as Memory;
 ghost use Rattle.work.specs.Dry.{dry_at, gain, Counts};
 ghost use Rattle.dry.specs.Solving.{turned_stand, Solvable, Turns, Solved};
-ghost use Rattle.dry.specs.Crossing.{gradient_by, crossed_by, started_by, Ground, Going, Crossed, Settled, Followable, Followed, anew};
+ghost use Rattle.dry.specs.Crossing.{gradient_by, crossed_by, started_by, Enough, Ground, Going, Crossed, Settled, Followable, Followed, anew};
 
 use conjugate::Pass;
-use mesh::Mesh;
+use pde::Field;
 use plane::Point;
+use sparse::Matrix;
 use work::{Plan, Run, Stand, layout};
-
-// The n numbers of `from` from src on, at the n places of `to` from `at` on.
-fn copy_in(to: &mut [f64], at: usize, from: &[f64], src: usize, n: usize)
-    requires { (at + n ≤ length to.old) × (src + n ≤ length from.now) }
-    ensures { to.new ≡ splice to.old at (part from.now src n) }
-{
-    for i in 0..n {
-        let j = src + i;
-        let k = at + i;
-        to[k] = from[j];
-    }
-}
 
 // ---- solving
 
@@ -44,24 +35,16 @@ fn turned(plan: Plan, stand: Stand, turn: Pass) -> Stand
 }
 
 // A pass of solving on the copies.
-fn solve_once(copies: &mut [f64], floats: &[f64], words: &[u32], plan: Plan, stand: Stand) -> Stand
-    requires { Solvable plan words.now (length floats.now) (length copies.old) stand }
-    ensures { Turns plan words.now floats.now copies.old stand result copies.new }
+fn solve_once(copies: &mut [f64], a: &Matrix, plan: Plan, stand: Stand) -> Stand
+    requires { Solvable plan (rows a.now) (length copies.old) stand }
+    ensures { Turns plan (matrix_of a.now) copies.old stand result copies.new }
 {
-    let m = layout::matrix_at(plan.n, plan.t);
-    let turn = conjugate::pass_beside(
-        copies,
-        floats,
-        words,
-        m,
-        Run::TINY,
-        plan.tolerance,
-        stand.rs,
-    );
+    let rs = stand.rs;
+    let turn = conjugate::pass_beside_in_row(a, copies, plan.n, Run::TINY, plan.tolerance, rs);
     turned(plan, stand, turn)
 }
 
-// At most k passes of solving, up to the field's end.
+// At most k passes of solving, up to the field's end. This loop and that of `cross` stay two: one over a closure would state each step's contract twice.
 fn solve(
     copies: &mut [f64],
     floats: &[f64],
@@ -70,104 +53,77 @@ fn solve(
     stand: Stand,
     k: usize,
 ) -> Stand
-    requires { Counts plan words.now stand k floats.now × Solved plan words.now floats.now stand 0 stand copies.old × (3 * plan.n ≤ length copies.old) }
+    requires { Counts plan words.now stand k floats.now × Solved plan words.now floats.now stand 0 stand copies.old × (length copies.old ≡ 3 * plan.n) }
     ensures { Solved plan words.now floats.now stand (result.place - stand.place) result copies.new × (result.place ≤ stand.place + k) × (result.end ≡ 0 → result.place ≡ stand.place + k) }
 {
+    let a = layout::matrix(floats, words, plan.n, plan.t);
     let mut s = stand;
-    let mut i = 0;
-    while i < k {
+    for _i in 0..k {
         if s.end != 0 {
             return s;
         }
-        let next = solve_once(copies, floats, words, plan, s);
-        s = next;
-        i += 1;
+        s = solve_once(copies, &a, plan, s);
     }
     s
 }
 
-// ---- the path, by the mesh m and its field from u in `base`
+// ---- the path, by a field and the gradients on its triangles, where they are stored
 
-// The gradient on triangle t: as it stands in the lent floats, or worked out.
-fn gradient_of(
-    base: &[f64],
-    floats: &[f64],
-    words: &[u32],
-    m: Mesh,
-    u: usize,
-    stored: bool,
-    plan: Plan,
-    t: usize,
-) -> Point
-    requires { Ground plan words.now (length floats.now) base.now m u × (t < plan.t) }
-    ensures { result ≡ gradient_by stored plan words.now floats.now base.now m u t }
+// The gradient on triangle t: a stored one, or worked out.
+fn gradient_of(field: &Field, stored: Option<&[f64]>, t: usize) -> Point
+    requires { (t < triangle_count field.now.mesh.triangles.now) × Enough stored t }
+    ensures { result ≡ gradient_by stored.entry field.now t }
 {
-    if stored {
-        let at = layout::at_gradients(plan.n, plan.t);
-        return pde::cross::gradient_at(floats, m, at, t);
+    match stored {
+        Some(gradients) => pde::cross::gradient_at(gradients, t),
+        None => gradient::gradient_in(&field.mesh, field.values, Run::TINY, t),
     }
-    gradient::gradient_in(base, words, m, u, Run::TINY, t)
 }
 
 // A crossing of the path's triangle.
-fn cross_once(
-    base: &[f64],
-    floats: &[f64],
-    words: &[u32],
-    m: Mesh,
-    u: usize,
-    stored: bool,
-    plan: Plan,
-    stand: Stand,
-) -> Stand
-    requires { Ground plan words.now (length floats.now) base.now m u × Going plan stand × (stand.walk.end ≡ 0) × (stand.place < 1000000) }
-    ensures { result ≡ crossed_by stored plan words.now floats.now base.now m u stand }
+fn cross_once(field: &Field, stored: Option<&[f64]>, plan: Plan, stand: Stand) -> Stand
+    requires { Ground stored plan field.now × Going plan stand × (stand.walk.end ≡ 0) × (stand.place < 1000000) }
+    ensures { result ≡ crossed_by stored.entry plan field.now stand }
 {
-    let walk = stand.walk;
-    let from = walk.position;
-    let g = gradient_of(base, floats, words, m, u, stored, plan, walk.triangle);
-    let c = kinds::crossing_by(base, words, plan, u, g, from, walk.triangle, walk.edge);
+    let entry = kinds::entry_of(stand.walk);
+    let g = gradient_of(field, stored, entry.triangle);
+    let c = kinds::crossing_by(field, plan, g, entry);
     kinds::crossed(plan, stand, c)
 }
 
 // At most k crossings, up to the path's end.
-fn cross(
-    base: &[f64],
-    floats: &[f64],
-    words: &[u32],
-    m: Mesh,
-    u: usize,
-    stored: bool,
-    plan: Plan,
-    stand: Stand,
-    k: usize,
-) -> Stand
-    requires { Ground plan words.now (length floats.now) base.now m u × Going plan stand × (stand.place + k < 1000000) }
-    ensures { Crossed stored plan words.now floats.now base.now m u stand k result }
+fn cross(field: &Field, stored: Option<&[f64]>, plan: Plan, stand: Stand, k: usize) -> Stand
+    requires { Ground stored plan field.now × Going plan stand × (stand.place + k < 1000000) }
+    ensures { Crossed stored.entry plan field.now stand k result }
 {
     let mut s = stand;
-    let mut i = 0;
-    while i < k {
-        let walk = s.walk;
-        if walk.end != 0 {
+    for _i in 0..k {
+        if s.walk.end != 0 {
             return s;
         }
-        let next = cross_once(base, floats, words, m, u, stored, plan, s);
-        s = next;
-        i += 1;
+        s = cross_once(field, stored, plan, s);
     }
     s
 }
 
 // The start pass.
-fn start(base: &[f64], words: &[u32], m: Mesh, u: usize, plan: Plan, stand: Stand) -> Stand
-    requires { Ground plan words.now (at_norms plan.n plan.t) base.now m u × (stand.place < 1000000) }
-    ensures { result ≡ started_by plan words.now base.now m u stand }
+fn start(field: &Field, plan: Plan, stand: Stand) -> Stand
+    requires { stand.place < 1000000 }
+    ensures { result ≡ started_by plan field.now stand }
 {
     let given = plan.start;
-    let found = kinds::find_start(base, words, m, u, given);
+    let found = kinds::find_start(field, given);
     let d = kinds::set_out(stand, given, found);
     d.stand
+}
+
+// The gradients that stand in the lent floats.
+fn gradients_in(floats: &[f64], plan: Plan) -> &[f64]
+    requires { (plan.n ≤ 4096) × (plan.t ≤ 8192) × (at_norms plan.n plan.t ≤ length floats.now) }
+    ensures { result.now ≡ part floats.now (at_gradients plan.n plan.t) (2 * plan.t) }
+{
+    let at = layout::at_gradients(plan.n, plan.t);
+    &floats[at..at + 2 * plan.t]
 }
 
 // At most k passes from where the field has ended, up to the path's end: the vertices stand first in the scratch, then x.
@@ -182,26 +138,19 @@ fn follow(
     requires { Followable plan words.now (length floats.now) scratch.now stand k }
     ensures { Followed plan words.now floats.now scratch.now stand k result }
 {
-    let m = Mesh {
-        n: plan.n,
-        t: plan.t,
-        vertices: 0,
-        triangles: 0,
-        neighbours: 3 * plan.t,
-        tags: 6 * plan.t,
-    };
-    let u = 2 * plan.n;
+    let field = Field::of(scratch, words, plan.n, plan.t, 2 * plan.n);
     if stand.walk.points != 0 {
-        return cross(scratch, floats, words, m, u, true, plan, stand, k);
+        let gradients = gradients_in(floats, plan);
+        return cross(&field, Some(gradients), plan, stand, k);
     }
     if k == 0 {
         return stand;
     }
-    let s = start(scratch, words, m, u, plan, stand);
+    let s = start(&field, plan, stand);
     if s.walk.end != 0 {
         return s;
     }
-    cross(scratch, floats, words, m, u, false, plan, s, k - 1)
+    cross(&field, None, plan, s, k - 1)
 }
 
 // ---- all phases
@@ -212,40 +161,47 @@ fn settle(scratch: &mut [f64], floats: &[f64], n: usize)
     ensures { Settled n floats.now scratch.old scratch.new }
 {
     stretch::copy(scratch, 0, 2 * n, n);
-    copy_in(scratch, 0, floats, 0, 2 * n);
+    scratch[..2 * n].copy_from_slice(&floats[..2 * n]);
 }
 
-// At most k passes from where no crossing is next. Three vectors have at most 3 · 4,096 places.
+// At most k passes from where no crossing is next, in room for three vectors.
+fn go_in(
+    scratch: &mut [f64],
+    floats: &[f64],
+    words: &[u32],
+    plan: Plan,
+    stand: Stand,
+    k: usize,
+) -> Stand
+    requires { Counts plan words.now stand k floats.now × (stand.walk.end ≡ 0) × (length scratch.old ≡ 3 * plan.n) }
+    ensures { result ≡ (Memory.dry plan words.now k (dry_at plan floats.now stand)).stand }
+{
+    let n = plan.n;
+    let x = layout::at_x(n, plan.t);
+    scratch.copy_from_slice(&floats[x..x + 3 * n]);
+    let s = solve(scratch, floats, words, plan, stand, k);
+    if s.end == 0 {
+        return s;
+    }
+    settle(scratch, floats, n);
+    let left = k - (s.place - stand.place);
+    follow(scratch, floats, words, plan, s, left)
+}
+
+// The same, with the room. Three vectors have at most 3 · 4,096 places.
 fn go(floats: &[f64], words: &[u32], plan: Plan, stand: Stand, k: usize) -> Stand
     requires { Counts plan words.now stand k floats.now × (stand.walk.end ≡ 0) }
     ensures { result ≡ (Memory.dry plan words.now k (dry_at plan floats.now stand)).stand }
 {
     let mut scratch = [0.0; 12288];
-    let n = plan.n;
-    let x = layout::at_x(n, plan.t);
-    copy_in(&mut scratch, 0, floats, x, 3 * n);
-    let s = solve(&mut scratch, floats, words, plan, stand, k);
-    if s.end == 0 {
-        return s;
-    }
-    settle(&mut scratch, floats, n);
-    let left = k - (s.place - stand.place);
-    follow(&scratch, floats, words, plan, s, left)
+    go_in(&mut scratch[..3 * plan.n], floats, words, plan, stand, k)
 }
 
 // A path with no point has made no crossing.
 fn uncrossed(s: Stand) -> Stand
     ensures { result ≡ anew s }
 {
-    let walk = s.walk;
-    Stand {
-        place: s.place,
-        rs: s.rs,
-        norms: s.norms,
-        end: s.end,
-        walk,
-        crossings: 0,
-    }
+    Stand { crossings: 0, ..s }
 }
 
 // How many places at most k passes would gain; crossings alone need no copy. `go` is called from two places, by different stands: else it is built into its caller, and every call reserves its frame.
@@ -265,8 +221,9 @@ pub fn dry_gain(floats: &[f64], words: &[u32], plan: Plan, stand: Stand, k: usiz
         let last = go(floats, words, plan, uncrossed(stand), k);
         return last.place - stand.place;
     }
-    let m = layout::mesh_at(plan.n, plan.t);
     let u = layout::at_x(plan.n, plan.t);
-    let last = cross(floats, floats, words, m, u, true, plan, stand, k);
+    let field = Field::of(floats, words, plan.n, plan.t, u);
+    let gradients = gradients_in(floats, plan);
+    let last = cross(&field, Some(gradients), plan, stand, k);
     last.place - stand.place
 }

@@ -1,21 +1,20 @@
 -- How the C functions hand over a test, a hit and the weights: a number, and numbers at the front of a lent part, which stays as it was where it is too short (2) or there is nothing to put.
 -- Definitions only. Assumes nothing.
-use Rattle.std.specs.Prelude.{◌≡◌, ℕ, Bool, List, ltb, length, set, Float}
+use Rattle.std.specs.Prelude.{◌≡◌, ℕ, Bool, List, Option, Some, None, ltb, length, set, Float}
 use Rattle.binary64.specs.Number.{pick}
-use Rattle.plane.specs.declared.Hit.{Hit}
-use Rattle.plane.specs.declared.Hit.TheVariants.{At, Nothing}
+use Rattle.plane.specs.declared.Point.{Point}
 use Rattle.plane.specs.declared.Weights.{Weights}
 
 abbrev pub flag : Bool → ℕ
 flag t = pick t 1 0
 
-abbrev pub hit_number : Hit → ℕ
-hit_number (At p) = 1
-hit_number Nothing = 0
+abbrev pub hit_number : Option Point → ℕ
+hit_number (Some p) = 1
+hit_number None = 0
 
-abbrev pub hit_put : Hit → List Float → List Float
-hit_put (At p) out = set (set out 0 p.x) 1 p.y
-hit_put Nothing out = out
+abbrev pub hit_put : Option Point → List Float → List Float
+hit_put (Some p) out = set (set out 0 p.x) 1 p.y
+hit_put None out = out
 
 abbrev pub weights_put : Weights → List Float → List Float
 weights_put w out = set (set (set out 0 w.r) 1 w.s) 2 w.t

@@ -7,7 +7,7 @@ ghost use Rattle.binary64.specs.Number.{abs_of, clamp_of, at_least, ceil_count};
 ghost use Rattle.plane.specs.Plane.{point, dot_of, length_squared, sign_of, point_in_triangle, ray_line_intersection, barycentric_weights, interpolated};
 ghost use Rattle.exports_numbers.specs.Answers.{flag, hit_number, hit_put, weights_put, Answers};
 
-use plane::{Hit, Point};
+use plane::Point;
 
 #[unsafe(no_mangle)]
 pub extern "C" fn cintrok_abs(x: f64) -> f64
@@ -41,14 +41,14 @@ pub extern "C" fn cintrok_ceil_count(x: f64) -> usize
 pub extern "C" fn cintrok_dot(px: f64, py: f64, qx: f64, qy: f64) -> f64
     ensures { result ≡ dot_of (point px py) (point qx qy) }
 {
-    plane::dot(Point { x: px, y: py }, Point { x: qx, y: qy })
+    Point { x: px, y: py }.dot(Point { x: qx, y: qy })
 }
 
 #[unsafe(no_mangle)]
 pub extern "C" fn cintrok_length_squared(px: f64, py: f64) -> f64
     ensures { result ≡ length_squared (point px py) }
 {
-    plane::length_squared(Point { x: px, y: py })
+    Point { x: px, y: py }.length_squared()
 }
 
 #[unsafe(no_mangle)]
@@ -110,7 +110,7 @@ pub extern "C" fn cintrok_ray(
     let a = Point { x: ax, y: ay };
     let b = Point { x: bx, y: by };
     let hit = plane::get_ray_line_intersection(origin, dir, a, b);
-    let Hit::At(p) = hit else {
+    let Some(p) = hit else {
         return 0;
     };
     out[0] = p.x;

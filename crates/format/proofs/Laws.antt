@@ -1,98 +1,70 @@
 -- What the tests on floats and on kinds tell of the definitions. Assumes nothing.
-use Prim.Native.Nat.{ℕ, zero, suc, ◌*◌, ◌≤◌}
-use mathlib.Core.Path.{◌≡◌, refl, sym, ap, ap₂, ◌∙◌}
-use mathlib.Core.Bool
-use mathlib.Core.Bool.{Bool, true, false, not, ◌&&◌, ◌||◌}
-use native.Mathlib.Omega.{arith}
-use borrow.Author.Tests.{eq-eqb, ne_eqb}
+use Prim.Native.Nat.{ℕ}
+use Rattle.std.specs.Prelude.{Result, Ok, Err}
+use Rattle.std.specs.Float.{float_is_finite}
+use mathlib.Core.Path.{◌≡◌, refl, sym, ap, ◌∙◌}
+use mathlib.Core.Bool.{Bool, true, false}
+use borrow.Author.Tests.{ne_eqb}
 use lib.Dec.{eqb}
-use lib.Ieee.{up, down, Float, nan, inf, fin, binary64, of_bits, of_fields, nan_bits, is_nan, lt, eq, ne, neg}
-use Rattle.binary64.specs.Constants.{plus_zero}
+use lib.Ieee.{Float, nan, inf, fin, binary64, of_bits, nan_bits}
+use lib.Ieee.Bits.{nan_bits_is}
 use Rattle.binary64.specs.Number.{pick}
-use Rattle.format.specs.declared.Setting.{Setting}
-use Rattle.format.specs.declared.Setting.TheVariants.{Unknown, NotANumber}
-use Rattle.format.specs.declared.Settings.{Settings}
-use Rattle.format.specs.Refusal.{◌then◌, real_fault, finite, positive, has_real, has_whole, missing}
+use Rattle.refusal.specs.Refusal.{number_of}
+use Rattle.refusal.specs.declared.Refusal.{Refusal}
+use Rattle.format.specs.declared.Setting as code
+use Rattle.format.specs.Setting.{Setting, Unknown, NotANumber, read_of, number_read}
+use Rattle.format.specs.Refusal.{finite, coordinate, coordinate_fault}
 use Rattle.format.specs.Sheet.{real_of, setting_of}
 use Rattle.format.specs.RefusalLaws.{pick_true, pick_false}
 
--- ---- floats
-
-beq : (s : Bool) → Bool.beq s s ≡ true
-beq true = refl
-beq false = refl
-
-pub ne_self : (x : Float) → ne x x ≡ is_nan x
-unfolding ne eq is_nan
-ne_self nan = refl
-ne_self (inf s) = ap not (beq s)
-ne_self (fin s m e) = ap not (ap₂ (λ (a b : Bool). a && (b || eqb (m * up e * down e) 0)) (eq-eqb (m * up e * down e) (m * up e * down e) refl) (beq s))
-
-pub real_nan : (good : Float → Bool) (x : Float) → ne x x ≡ true → 6 ≡ real_fault good x
-real_nan good x h = sym (pick_true 6 (pick (good x) 0 7) (sym (ne_self x) ∙ h))
-
-pub real_is : (good : Float → Bool) (x : Float) (t : Bool) → ne x x ≡ false → good x ≡ t → pick t 0 7 ≡ real_fault good x
-real_is good x t h e = sym (pick_false 6 (pick (good x) 0 7) (sym (ne_self x) ∙ h) ∙ ap (λ (b : Bool). pick b 0 7) e)
-
--- the pattern of +infinity
-abbrev pub infinity : Float
-infinity = of_bits binary64 0x7ff0_0000_0000_0000
-
-pub finite_is : (x : Float) → finite x ≡ lt x infinity && lt (neg infinity) x
-unfolding finite lt neg of_bits of_fields
+pub finite_is : (x : Float) → float_is_finite x ≡ finite x
+unfolding finite float_is_finite
 finite_is nan = refl
-finite_is (inf true) = refl
-finite_is (inf false) = refl
+finite_is (inf s) = refl
 finite_is (fin s m e) = refl
 
-pub positive_is : (x : Float) → real_fault positive x ≡ (real_fault finite x then pick (lt plus_zero x) 0 7)
-unfolding positive
-positive_is x = go (is_nan x) (finite x)
+-- ---- a number by its pattern
+
+pub coordinate_refused : (bits : ℕ) (e : Refusal) → ◌≡◌ {A = Result Float Refusal} (Err e) (number_read bits) → number_of e ≡ coordinate_fault (of_bits binary64 bits)
+coordinate_refused bits e h = go (nan_bits binary64 bits) refl h
   where
-    go : (a b : Bool) → pick {A = ℕ} a 6 (pick (b && lt plus_zero x) 0 7) ≡ (pick a 6 (pick b 0 7) then pick (lt plus_zero x) 0 7)
-    go true b = refl
-    go false true = refl
-    go false false = refl
+    go : (t : Bool) → nan_bits binary64 bits ≡ t → ◌≡◌ {A = Result Float Refusal} (Err e) (pick t (Err Refusal.NotANumber) (Ok (of_bits binary64 bits))) → number_of e ≡ coordinate_fault (of_bits binary64 bits)
+    go true n h =
+        let k : e ≡ Refusal.NotANumber = cc in
+        ap number_of k ∙ sym (pick_true 6 (pick (coordinate (of_bits binary64 bits)) 0 7) (sym (nan_bits_is binary64 bits) ∙ n))
+    go false n h = cc
+
+pub number_is : (bits : ℕ) (x : Float) → ◌≡◌ {A = Result Float Refusal} (Ok x) (number_read bits) → x ≡ of_bits binary64 bits
+number_is bits x h = go (nan_bits binary64 bits) h
+  where
+    go : (t : Bool) → ◌≡◌ {A = Result Float Refusal} (Ok x) (pick t (Err Refusal.NotANumber) (Ok (of_bits binary64 bits))) → x ≡ of_bits binary64 bits
+    go true h = cc
+    go false h = cc
 
 -- ---- kinds
 
-pub kind_is : (k j v : ℕ) (s : Setting) → k ≡ j → s ≡ setting_of j v → s ≡ setting_of k v
-kind_is k j v s e p = p ∙ ap (λ (i : ℕ). setting_of i v) (sym e)
+pub kind_is : (k j v : ℕ) (r : Result code.Setting Refusal) → k ≡ j → r ≡ read_of (setting_of j v) → r ≡ read_of (setting_of k v)
+kind_is k j v r e p = p ∙ ap (λ (i : ℕ). read_of (setting_of i v)) (sym e)
 
-pub kind_real : (k v : ℕ) (make : Float → Setting) → setting_of k v ≡ real_of make v → nan_bits binary64 v ≡ false → make (of_bits binary64 v) ≡ setting_of k v
-kind_real k v make e n = sym (e ∙ pick_false NotANumber (make (of_bits binary64 v)) n)
+-- a binary64 setting of kind k
+module _ (k v : ℕ) (make : Float → Setting) (e : setting_of k v ≡ real_of make v) where
+  pub real_refused : (r : Refusal) → ◌≡◌ {A = Result Float Refusal} (Err r) (number_read v) → ◌≡◌ {A = Result code.Setting Refusal} (Err r) (read_of (setting_of k v))
+  real_refused r h = go (nan_bits binary64 v) h ∙ ap read_of (sym e)
+    where
+      go : (t : Bool) → ◌≡◌ {A = Result Float Refusal} (Err r) (pick t (Err Refusal.NotANumber) (Ok (of_bits binary64 v))) → ◌≡◌ {A = Result code.Setting Refusal} (Err r) (read_of (pick t NotANumber (make (of_bits binary64 v))))
+      go true h = cc
+      go false h = cc
 
-pub kind_nan : (k v : ℕ) → 2 ≤ k → k ≤ 5 → nan_bits binary64 v ≡ true → NotANumber ≡ setting_of k v
-unfolding setting_of
-kind_nan zero v h l n = absurd (omega arith)
-kind_nan (suc zero) v h l n = absurd (omega arith)
-kind_nan (suc (suc zero)) v h l n = sym (pick_true NotANumber _ n)
-kind_nan (suc (suc (suc zero))) v h l n = sym (pick_true NotANumber _ n)
-kind_nan (suc (suc (suc (suc zero)))) v h l n = sym (pick_true NotANumber _ n)
-kind_nan (suc (suc (suc (suc (suc zero))))) v h l n = sym (pick_true NotANumber _ n)
-kind_nan (suc (suc (suc (suc (suc (suc k)))))) v h l n = absurd (omega arith)
+  pub real_read : (x : Float) → ◌≡◌ {A = Result Float Refusal} (Ok x) (number_read v) → read_of (make x) ≡ read_of (setting_of k v)
+  real_read x h = go (nan_bits binary64 v) h ∙ ap read_of (sym e)
+    where
+      go : (t : Bool) → ◌≡◌ {A = Result Float Refusal} (Ok x) (pick t (Err Refusal.NotANumber) (Ok (of_bits binary64 v))) → read_of (make x) ≡ read_of (pick t NotANumber (make (of_bits binary64 v)))
+      go true h = cc
+      go false h = let p : x ≡ of_bits binary64 v = cc in ap (λ (y : Float). read_of (make y)) p
 
 other : {k j : ℕ} (a b : Setting) → (k ≡ j → ⊥) → pick (eqb k j) a b ≡ b
 other {k} {j} a b h = pick_false a b (ne_eqb k j h)
 
 pub kind_unknown : (k v : ℕ) → (k ≡ 1 → ⊥) → (k ≡ 2 → ⊥) → (k ≡ 3 → ⊥) → (k ≡ 4 → ⊥) → (k ≡ 5 → ⊥) → (k ≡ 6 → ⊥) → Unknown ≡ setting_of k v
 unfolding setting_of
-kind_unknown k v a b c d e f =
-    sym (other _ _ a ∙ other _ _ b ∙ other _ _ c ∙ other _ _ d ∙ other _ _ e ∙ other _ _ f)
-
--- ---- settings that are missing
-
-pub beq_true : (t : Bool) → t ≡ Bool.beq true t
-beq_true true = refl
-beq_true false = refl
-
-pub missing_is : (s : Settings) (a b t : Bool) → has_real s.step ≡ a → has_whole s.room ≡ b → Bool.beq (has_real s.x) (has_real s.y) ≡ t → pick (a && b && t) 0 5 ≡ missing s
-unfolding missing
-missing_is s a b t p q r = sym (ap₂ (λ (i j : Bool). pick (i && j) 0 5) (ap₂ (λ (i j : Bool). i && j) p q) r)
-
--- where the first is missing, and where the second is, no more is looked at
-pub no_step : (s : Settings) → has_real s.step ≡ false → 5 ≡ missing s
-no_step s p = missing_is s false _ _ p refl refl
-
-pub no_room : (s : Settings) → has_real s.step ≡ true → has_whole s.room ≡ false → 5 ≡ missing s
-no_room s p q = missing_is s true false _ p q refl
+kind_unknown k v a b c d e f = sym (other _ _ a ∙ other _ _ b ∙ other _ _ c ∙ other _ _ d ∙ other _ _ e ∙ other _ _ f)

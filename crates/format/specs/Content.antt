@@ -1,13 +1,11 @@
 -- What a sheet says (document 01, section Sheet): the flat lists of its numbers and its settings, its limits, and what an absent setting means. Definitions only.
 -- Assumes nothing.
-use Rattle.std.specs.Prelude.{ℕ, ◌+◌, ◌-◌, ◌*◌, ◌/◌, ◌^◌, List, length, get_or, Float}
+use Rattle.std.specs.Prelude.{ℕ, Option, Some, None, ◌+◌, ◌-◌, ◌*◌, ◌/◌, ◌^◌, List, length, get_or, Float}
 use Rattle.std.specs.Float.{binary64}
 use Rattle.std.specs.Float.Ieee.{of_bits, neg}
 use Rattle.binary64.specs.Constants.{plus_zero}
 use Rattle.plane.specs.Plane.{point}
 use Rattle.plane.specs.declared.Point.{Point}
-use Rattle.format.specs.declared.Whole.{Whole}
-use Rattle.format.specs.declared.Real.{Real}
 use Rattle.format.specs.declared.Settings.{Settings}
 
 -- vertices: x and y of each, in turn. triangles: the three vertex numbers of each. neighbours: one for each edge, the numbers of triangles as u32; −1 is the u32 with its bits.
@@ -80,10 +78,10 @@ default_limit = 1000
 abbrev pub default_tolerance : Float
 default_tolerance = of_bits binary64 0x3e45_798e_e230_8c3a
 
-abbrev pub whole_or : ℕ → Whole → ℕ
-whole_or d Whole.Absent = d
-whole_or d (Whole.Given v) = v
+abbrev pub whole_or : ℕ → Option ℕ → ℕ
+whole_or d None = d
+whole_or d (Some v) = v
 
-abbrev pub real_or : Float → Real → Float
-real_or d Real.Absent = d
-real_or d (Real.Given x) = x
+abbrev pub real_or : Float → Option Float → Float
+real_or d None = d
+real_or d (Some x) = x

@@ -1,12 +1,16 @@
 pub mod Bytes
 pub mod Place
+pub mod Setting
 pub mod Content
+pub mod Tries
 pub mod Refusal
 pub mod Sheet
 pub mod Range
 pub mod BytesLaws
+pub mod LeLaws
 pub mod PlaceLaws
 pub mod RefusalLaws
+pub mod TriesLaws
 pub mod SettingLaws
 pub mod SectionLaws
 pub mod SheetLaws

@@ -1,12 +1,10 @@
 -- Every range of document 01's section Sheet, as one record on a content. Definitions only. Assumes nothing.
-use Rattle.std.specs.Prelude.{ℕ, ◌*◌, ◌≤◌, ◌<◌, ◌≡◌, true, false, ◌⊎◌, T, length, get_or, Float}
+use Rattle.std.specs.Prelude.{ℕ, Option, Some, None, is_some, ◌*◌, ◌≤◌, ◌<◌, ◌≡◌, true, ◌⊎◌, T, length, get_or, Float}
 use Rattle.std.specs.Float.{nan, binary64}
 use Rattle.std.specs.Float.Ieee.{fits, lt, le}
 use Rattle.binary64.specs.Constants.{plus_zero}
-use Rattle.format.specs.declared.Whole.{Whole}
-use Rattle.format.specs.declared.Real.{Real}
 use Rattle.format.specs.Content.{Content, vertex_count, triangle_count, max_vertices, max_triangles, max_tag, max_limit, max_room, no_neighbour, least_coordinate, greatest_coordinate}
-use Rattle.format.specs.Refusal.{finite, has_whole, has_real}
+use Rattle.format.specs.Refusal.{finite}
 
 -- a comparison with a NaN is false, so a coordinate is none
 pub record Coordinate (x : Float) : Type 0 where
@@ -26,13 +24,9 @@ pub record Between (low high v : ℕ) : Type 0 where
   pub greatest : v ≤ high
 
 -- what a setting says is so where it is given
-abbrev pub OfWhole : (ℕ → Type 0) → Whole → Type 0
-OfWhole P Whole.Absent = Unit {0}
-OfWhole P (Whole.Given v) = P v
-
-abbrev pub OfReal : (Float → Type 0) → Real → Type 0
-OfReal P Real.Absent = Unit {0}
-OfReal P (Real.Given x) = P x
+abbrev pub IfGiven : {A : Type 0} → (A → Type 0) → Option A → Type 0
+IfGiven P None = Unit {0}
+IfGiven P (Some x) = P x
 
 pub record InRange (c : Content) : Type 0 where
   -- 1: n vertices, 0 to 4,096
@@ -50,15 +44,15 @@ pub record InRange (c : Content) : Type 0 where
   pub tagged : length c.tags ≡ vertex_count c
   pub tags : (i : ℕ) → i < length c.tags → get_or c.tags i 0 ≤ max_tag
   -- 5: settings
-  pub limit : OfWhole (Between 0 max_limit) c.settings.limit
-  pub tolerance : OfReal Finite c.settings.tolerance
-  pub step : OfReal Step c.settings.step
-  pub x : OfReal Coordinate c.settings.x
-  pub y : OfReal Coordinate c.settings.y
-  pub room : OfWhole (Between 1 max_room) c.settings.room
-  pub step_given : has_real c.settings.step ≡ true
-  pub room_given : has_whole c.settings.room ≡ true
-  pub start_together : has_real c.settings.x ≡ has_real c.settings.y
+  pub limit : IfGiven (Between 0 max_limit) c.settings.limit
+  pub tolerance : IfGiven Finite c.settings.tolerance
+  pub step : IfGiven Step c.settings.step
+  pub x : IfGiven Coordinate c.settings.x
+  pub y : IfGiven Coordinate c.settings.y
+  pub room : IfGiven (Between 1 max_room) c.settings.room
+  pub step_given : is_some c.settings.step ≡ true
+  pub room_given : is_some c.settings.room ≡ true
+  pub start_together : is_some c.settings.x ≡ is_some c.settings.y
 
 -- Every float is a binary64 number in its one form, as every f64 of a program is.
 abbrev pub Double : Float → Type 0
@@ -66,7 +60,7 @@ Double x = T (fits binary64 x)
 
 pub record Doubles (c : Content) : Type 0 where
   pub vertices : (i : ℕ) → i < length c.vertices → Double (get_or c.vertices i nan)
-  pub tolerance : OfReal Double c.settings.tolerance
-  pub step : OfReal Double c.settings.step
-  pub x : OfReal Double c.settings.x
-  pub y : OfReal Double c.settings.y
+  pub tolerance : IfGiven Double c.settings.tolerance
+  pub step : IfGiven Double c.settings.step
+  pub x : IfGiven Double c.settings.x
+  pub y : IfGiven Double c.settings.y

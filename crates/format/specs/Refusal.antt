@@ -1,16 +1,13 @@
 -- What refuses a sheet's content, by document 01's numbers (Length, writer, program: the table and its Order). A refusal is its number, 0 is none. Definitions only.
 -- Assumes nothing.
-use Rattle.std.specs.Prelude.{ℕ, zero, suc, ◌+◌, ◌-◌, ◌*◌, Bool, true, false, ◌&&◌, List, [], ◌∷◌, ◌++◌, leb, ltb, eqb, length, Float}
+use Rattle.std.specs.Prelude.{ℕ, Option, Some, None, is_some, zero, suc, ◌*◌, Bool, true, false, ◌&&◌, List, [], ◌∷◌, ◌++◌, leb, ltb, eqb, length, Float}
 use Rattle.std.specs.Bool.{beq}
 use Rattle.std.specs.Float.{nan, inf, fin}
 use Rattle.std.specs.Float.Ieee.{is_nan, lt, le}
 use Rattle.binary64.specs.Constants.{plus_zero}
 use Rattle.binary64.specs.Number.{pick}
-use Rattle.format.specs.declared.Whole.{Whole}
-use Rattle.format.specs.declared.Real.{Real}
 use Rattle.format.specs.declared.Settings.{Settings}
-use Rattle.format.specs.declared.Setting.{Setting}
-use Rattle.format.specs.declared.Setting.TheVariants.{Limit, Tolerance, Step, StartX, StartY, Room, Unknown, NotANumber}
+use Rattle.format.specs.Setting.{Setting, Limit, Tolerance, Step, StartX, StartY, Room, Unknown, NotANumber}
 use Rattle.format.specs.Content.{Content, vertex_count, triangle_count, max_vertices, max_triangles, max_tag, max_limit, max_room, no_neighbour, least_coordinate, greatest_coordinate}
 
 -- the first refusal of two, in this order
@@ -83,34 +80,22 @@ setting_fault Unknown = 5
 setting_fault NotANumber = 6
 
 -- the settings that are present, by rising kind
-abbrev pub whole_setting : (ℕ → Setting) → Whole → List Setting
-whole_setting make Whole.Absent = []
-whole_setting make (Whole.Given v) = make v ∷ []
-
-abbrev pub real_setting : (Float → Setting) → Real → List Setting
-real_setting make Real.Absent = []
-real_setting make (Real.Given x) = make x ∷ []
+abbrev pub given : {A : Type 0} → (A → Setting) → Option A → List Setting
+given make None = []
+given make (Some x) = make x ∷ []
 
 unfoldable pub present : Settings → List Setting
 present s =
-    whole_setting Limit s.limit
-    ++ (real_setting Tolerance s.tolerance
-    ++ (real_setting Step s.step
-    ++ (real_setting StartX s.x
-    ++ (real_setting StartY s.y
-    ++ whole_setting Room s.room))))
-
-abbrev pub has_whole : Whole → Bool
-has_whole Whole.Absent = false
-has_whole (Whole.Given v) = true
-
-abbrev pub has_real : Real → Bool
-has_real Real.Absent = false
-has_real (Real.Given x) = true
+    given Limit s.limit
+    ++ (given Tolerance s.tolerance
+    ++ (given Step s.step
+    ++ (given StartX s.x
+    ++ (given StartY s.y
+    ++ given Room s.room))))
 
 -- a step, a room or half a start is missing
 unfoldable pub missing : Settings → ℕ
-missing s = pick (has_real s.step && has_whole s.room && beq (has_real s.x) (has_real s.y)) 0 5
+missing s = pick (is_some s.step && is_some s.room && beq (is_some s.x) (is_some s.y)) 0 5
 
 -- ---- content, in the reader's order
 

@@ -1,18 +1,15 @@
 -- Section 5: its items and the settings that they say are inverse. Assumes nothing.
-use Rattle.std.specs.Prelude.{ℕ, ◌+◌, ◌*◌, ◌/◌, ◌%◌, ◌^◌, ◌≤◌, ◌<◌, ◌≡◌, refl, Bool, true, false, not, ◌&&◌, List, [], ◌∷◌, ◌++◌, map, T, leb, ltb, eqb, Float, length}
+use Rattle.std.specs.Prelude.{ℕ, Option, Some, None, ◌+◌, ◌*◌, ◌/◌, ◌%◌, ◌^◌, ◌≤◌, ◌<◌, ◌≡◌, refl, Bool, true, false, not, ◌&&◌, List, [], ◌∷◌, ◌++◌, map, T, leb, ltb, eqb, Float, length}
 use Rattle.std.proofs.Common.{zero-le, suc-le-suc, sym, ap, ap₂, ◌∙◌, subst, append-nil, append_assoc, div-lt_iff_lt-mul, arith, ltb-true, lt-ltb, leb-true, eqb-true, lit<, length-append}
 use Rattle.std.specs.Float.{binary64}
 use Rattle.std.specs.Float.Ieee.{of_bits, to_bits, nan_bits, is_nan}
 use Rattle.std.specs.Float.Ieee.Bits.{of_bits-to_bits, to_bits-of_bits, to_bits-lt, nan_bits_is}
 use Rattle.binary64.specs.Number.{pick}
-use Rattle.format.specs.declared.Whole.{Whole}
-use Rattle.format.specs.declared.Real.{Real}
 use Rattle.format.specs.declared.Settings.{Settings}
-use Rattle.format.specs.declared.Setting.{Setting}
-use Rattle.format.specs.declared.Setting.TheVariants.{Limit, Tolerance, Step, StartX, StartY, Room, Unknown, NotANumber}
-use Rattle.format.specs.Refusal.{◌then◌, each, whole_fault, real_fault, finite, coordinate, positive, setting_fault, whole_setting, real_setting, present}
+use Rattle.format.specs.Setting.{Setting, Limit, Tolerance, Step, StartX, StartY, Room, Unknown, NotANumber}
+use Rattle.format.specs.Refusal.{◌then◌, each, whole_fault, real_fault, finite, coordinate, positive, setting_fault, given, present}
 use Rattle.format.specs.Sheet.{kind_of, value_of, item_of, real_of, setting_of, item_kind, item_setting, in_turn, no_settings, adding, gathered}
-use Rattle.format.specs.Range.{OfReal, Double}
+use Rattle.format.specs.Range.{IfGiven, Double}
 use Rattle.format.specs.BytesLaws.{Under, under_nil, under_cons, under_head, under_tail}
 use Rattle.format.specs.RefusalLaws.{Neither, neither, then_none, passes, pick_true, pick_false, both, proper}
 
@@ -200,12 +197,12 @@ items_in_turn last (s ∷ ss) r h d =
 
 -- nothing of a kind above `last`
 pub record Fresh (last : ℕ) (s : Settings) : Type 0 where
-  pub limit : last < 1 → s.limit ≡ Whole.Absent
-  pub tolerance : last < 2 → s.tolerance ≡ Real.Absent
-  pub step : last < 3 → s.step ≡ Real.Absent
-  pub x : last < 4 → s.x ≡ Real.Absent
-  pub y : last < 5 → s.y ≡ Real.Absent
-  pub room : last < 6 → s.room ≡ Whole.Absent
+  pub limit : last < 1 → s.limit ≡ None
+  pub tolerance : last < 2 → s.tolerance ≡ None
+  pub step : last < 3 → s.step ≡ None
+  pub x : last < 4 → s.x ≡ None
+  pub y : last < 5 → s.y ≡ None
+  pub room : last < 6 → s.room ≡ None
 
 pub fresh_none : Fresh 0 no_settings
 fresh_none = record { limit = λ h. refl; tolerance = λ h. refl; step = λ h. refl; x = λ h. refl; y = λ h. refl; room = λ h. refl }
@@ -276,38 +273,38 @@ unfolding gathered
 gathered-append s [] ys = refl
 gathered-append s (x ∷ xs) ys = gathered-append (adding s x) xs ys
 
-abbrev settings : Whole → Real → Real → Real → Real → Whole → Settings
+abbrev settings : Option ℕ → Option Float → Option Float → Option Float → Option Float → Option ℕ → Settings
 settings l t s x y r = record { limit = l; tolerance = t; step = s; x = x; y = y; room = r }
 
-gather_limit : (l : Whole) → gathered (settings Whole.Absent Real.Absent Real.Absent Real.Absent Real.Absent Whole.Absent) (whole_setting Limit l) ≡ settings l Real.Absent Real.Absent Real.Absent Real.Absent Whole.Absent
+gather_limit : (l : Option ℕ) → gathered (settings None None None None None None) (given Limit l) ≡ settings l None None None None None
 unfolding gathered adding
-gather_limit Whole.Absent = refl
-gather_limit (Whole.Given v) = refl
+gather_limit None = refl
+gather_limit (Some v) = refl
 
-gather_tolerance : (l : Whole) (t : Real) → gathered (settings l Real.Absent Real.Absent Real.Absent Real.Absent Whole.Absent) (real_setting Tolerance t) ≡ settings l t Real.Absent Real.Absent Real.Absent Whole.Absent
+gather_tolerance : (l : Option ℕ) (t : Option Float) → gathered (settings l None None None None None) (given Tolerance t) ≡ settings l t None None None None
 unfolding gathered adding
-gather_tolerance l Real.Absent = refl
-gather_tolerance l (Real.Given v) = refl
+gather_tolerance l None = refl
+gather_tolerance l (Some v) = refl
 
-gather_step : (l : Whole) (t : Real) (s : Real) → gathered (settings l t Real.Absent Real.Absent Real.Absent Whole.Absent) (real_setting Step s) ≡ settings l t s Real.Absent Real.Absent Whole.Absent
+gather_step : (l : Option ℕ) (t s : Option Float) → gathered (settings l t None None None None) (given Step s) ≡ settings l t s None None None
 unfolding gathered adding
-gather_step l t Real.Absent = refl
-gather_step l t (Real.Given v) = refl
+gather_step l t None = refl
+gather_step l t (Some v) = refl
 
-gather_x : (l : Whole) (t : Real) (s : Real) (x : Real) → gathered (settings l t s Real.Absent Real.Absent Whole.Absent) (real_setting StartX x) ≡ settings l t s x Real.Absent Whole.Absent
+gather_x : (l : Option ℕ) (t s x : Option Float) → gathered (settings l t s None None None) (given StartX x) ≡ settings l t s x None None
 unfolding gathered adding
-gather_x l t s Real.Absent = refl
-gather_x l t s (Real.Given v) = refl
+gather_x l t s None = refl
+gather_x l t s (Some v) = refl
 
-gather_y : (l : Whole) (t : Real) (s : Real) (x : Real) (y : Real) → gathered (settings l t s x Real.Absent Whole.Absent) (real_setting StartY y) ≡ settings l t s x y Whole.Absent
+gather_y : (l : Option ℕ) (t s x y : Option Float) → gathered (settings l t s x None None) (given StartY y) ≡ settings l t s x y None
 unfolding gathered adding
-gather_y l t s x Real.Absent = refl
-gather_y l t s x (Real.Given v) = refl
+gather_y l t s x None = refl
+gather_y l t s x (Some v) = refl
 
-gather_room : (l : Whole) (t : Real) (s : Real) (x : Real) (y : Real) (r : Whole) → gathered (settings l t s x y Whole.Absent) (whole_setting Room r) ≡ settings l t s x y r
+gather_room : (l : Option ℕ) (t s x y : Option Float) (r : Option ℕ) → gathered (settings l t s x y None) (given Room r) ≡ settings l t s x y r
 unfolding gathered adding
-gather_room l t s x y Whole.Absent = refl
-gather_room l t s x y (Whole.Given v) = refl
+gather_room l t s x y None = refl
+gather_room l t s x y (Some v) = refl
 
 gather_on : (s : Settings) {s' r : Settings} (xs ys : List Setting) → gathered s xs ≡ s' → gathered s' ys ≡ r → gathered s (xs ++ ys) ≡ r
 gather_on s xs ys p q = gathered-append s xs ys ∙ ap (λ (g : Settings). gathered g ys) p ∙ q
@@ -316,41 +313,37 @@ gather_on s xs ys p q = gathered-append s xs ys ∙ ap (λ (g : Settings). gathe
 pub gathered-present : (s : Settings) → gathered no_settings (present s) ≡ s
 unfolding present
 gathered-present s =
-    gather_on _ (whole_setting Limit s.limit) _ (gather_limit s.limit)
-    (gather_on _ (real_setting Tolerance s.tolerance) _ (gather_tolerance s.limit s.tolerance)
-    (gather_on _ (real_setting Step s.step) _ (gather_step s.limit s.tolerance s.step)
-    (gather_on _ (real_setting StartX s.x) _ (gather_x s.limit s.tolerance s.step s.x)
-    (gather_on _ (real_setting StartY s.y) _ (gather_y s.limit s.tolerance s.step s.x s.y)
+    gather_on _ (given Limit s.limit) _ (gather_limit s.limit)
+    (gather_on _ (given Tolerance s.tolerance) _ (gather_tolerance s.limit s.tolerance)
+    (gather_on _ (given Step s.step) _ (gather_step s.limit s.tolerance s.step)
+    (gather_on _ (given StartX s.x) _ (gather_x s.limit s.tolerance s.step s.x)
+    (gather_on _ (given StartY s.y) _ (gather_y s.limit s.tolerance s.step s.x s.y)
     (gather_room s.limit s.tolerance s.step s.x s.y s.room)))))
 
 -- those that are present rise
-rising_whole : (i j : ℕ) (make : ℕ → Setting) (w : Whole) (ss : List Setting) → ((v : ℕ) → kind_of (make v) ≡ j) → i < j → Rising j ss → Rising i (whole_setting make w ++ ss)
-rising_whole i j make Whole.Absent ss k h r = rises ss (omega arith) r
-rising_whole i j make (Whole.Given v) ss k h r = (subst (λ (n : ℕ). i < n) (sym (k v)) h, subst (λ (n : ℕ). Rising n ss) (sym (k v)) r)
-
-rising_real : (i j : ℕ) (make : Float → Setting) (w : Real) (ss : List Setting) → ((v : Float) → kind_of (make v) ≡ j) → i < j → Rising j ss → Rising i (real_setting make w ++ ss)
-rising_real i j make Real.Absent ss k h r = rises ss (omega arith) r
-rising_real i j make (Real.Given v) ss k h r = (subst (λ (n : ℕ). i < n) (sym (k v)) h, subst (λ (n : ℕ). Rising n ss) (sym (k v)) r)
+rising_given : {A : Type 0} (i j : ℕ) (make : A → Setting) (w : Option A) (ss : List Setting) → ((v : A) → kind_of (make v) ≡ j) → i < j → Rising j ss → Rising i (given make w ++ ss)
+rising_given i j make None ss k h r = rises ss (omega arith) r
+rising_given i j make (Some v) ss k h r = (subst (λ (n : ℕ). i < n) (sym (k v)) h, subst (λ (n : ℕ). Rising n ss) (sym (k v)) r)
 
 pub present_rising : (s : Settings) → Rising 0 (present s)
 unfolding present kind_of
 present_rising s =
-    rising_whole 0 1 Limit s.limit _ (λ v. refl) (lit< tt)
-    (rising_real 1 2 Tolerance s.tolerance _ (λ v. refl) (lit< tt)
-    (rising_real 2 3 Step s.step _ (λ v. refl) (lit< tt)
-    (rising_real 3 4 StartX s.x _ (λ v. refl) (lit< tt)
-    (rising_real 4 5 StartY s.y _ (λ v. refl) (lit< tt)
-    (subst (λ (ss : List Setting). Rising 5 ss) (append-nil (whole_setting Room s.room)) (rising_whole 5 6 Room s.room [] (λ v. refl) (lit< tt) tt))))))
+    rising_given 0 1 Limit s.limit _ (λ v. refl) (lit< tt)
+    (rising_given 1 2 Tolerance s.tolerance _ (λ v. refl) (lit< tt)
+    (rising_given 2 3 Step s.step _ (λ v. refl) (lit< tt)
+    (rising_given 3 4 StartX s.x _ (λ v. refl) (lit< tt)
+    (rising_given 4 5 StartY s.y _ (λ v. refl) (lit< tt)
+    (subst (λ (ss : List Setting). Rising 5 ss) (append-nil (given Room s.room)) (rising_given 5 6 Room s.room [] (λ v. refl) (lit< tt) tt))))))
 
-double_whole : (make : ℕ → Setting) (w : Whole) (ss : List Setting) → ((v : ℕ) → DoubleIn (make v)) → AllDouble ss → AllDouble (whole_setting make w ++ ss)
-double_whole make Whole.Absent ss k d = d
-double_whole make (Whole.Given v) ss k d = (k v, d)
+double_whole : (make : ℕ → Setting) (w : Option ℕ) (ss : List Setting) → ((v : ℕ) → DoubleIn (make v)) → AllDouble ss → AllDouble (given make w ++ ss)
+double_whole make None ss k d = d
+double_whole make (Some v) ss k d = (k v, d)
 
-double_real : (make : Float → Setting) (w : Real) (ss : List Setting) → ((v : Float) → Double v → DoubleIn (make v)) → OfReal Double w → AllDouble ss → AllDouble (real_setting make w ++ ss)
-double_real make Real.Absent ss k h d = d
-double_real make (Real.Given v) ss k h d = (k v h, d)
+double_real : (make : Float → Setting) (w : Option Float) (ss : List Setting) → ((v : Float) → Double v → DoubleIn (make v)) → IfGiven Double w → AllDouble ss → AllDouble (given make w ++ ss)
+double_real make None ss k h d = d
+double_real make (Some v) ss k h d = (k v h, d)
 
-pub present_double : (s : Settings) → OfReal Double s.tolerance → OfReal Double s.step → OfReal Double s.x → OfReal Double s.y → AllDouble (present s)
+pub present_double : (s : Settings) → IfGiven Double s.tolerance → IfGiven Double s.step → IfGiven Double s.x → IfGiven Double s.y → AllDouble (present s)
 unfolding present
 present_double s t st x y =
     double_whole Limit s.limit _ (λ v. tt)
@@ -358,18 +351,14 @@ present_double s t st x y =
     (double_real Step s.step _ (λ v d. d) st
     (double_real StartX s.x _ (λ v d. d) x
     (double_real StartY s.y _ (λ v d. d) y
-    (subst AllDouble (append-nil (whole_setting Room s.room)) (double_whole Room s.room [] (λ v. tt) tt))))))
+    (subst AllDouble (append-nil (given Room s.room)) (double_whole Room s.room [] (λ v. tt) tt))))))
 
-one-whole : (make : ℕ → Setting) (w : Whole) → length (whole_setting make w) ≤ 1
-one-whole make Whole.Absent = zero-le
-one-whole make (Whole.Given v) = suc-le-suc zero-le
-
-one-real : (make : Float → Setting) (w : Real) → length (real_setting make w) ≤ 1
-one-real make Real.Absent = zero-le
-one-real make (Real.Given v) = suc-le-suc zero-le
+one-given : {A : Type 0} (make : A → Setting) (w : Option A) → length (given make w) ≤ 1
+one-given make None = zero-le
+one-given make (Some v) = suc-le-suc zero-le
 
 pub present_few : (s : Settings) → length (present s) ≤ 6
 unfolding present
 present_few s =
     simp length-append
-    (omega (arith, one-whole Limit s.limit, one-real Tolerance s.tolerance, one-real Step s.step, one-real StartX s.x, one-real StartY s.y, one-whole Room s.room))
+    (omega (arith, one-given Limit s.limit, one-given Tolerance s.tolerance, one-given Step s.step, one-given StartX s.x, one-given StartY s.y, one-given Room s.room))

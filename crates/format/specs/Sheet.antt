@@ -1,14 +1,11 @@
 -- The sheet's bytes and what they say (document 01, section Sheet; the order of refusals by Length, writer, program): five sections, each a u32 count and its items. Definitions only.
 -- Assumes nothing.
-use Rattle.std.specs.Prelude.{ℕ, zero, suc, ◌+◌, ◌*◌, ◌/◌, ◌%◌, List, [], ◌∷◌, ◌++◌, map, leb, ltb, eqb, length, drop, Float}
+use Rattle.std.specs.Prelude.{ℕ, Some, None, zero, suc, ◌+◌, ◌*◌, ◌/◌, ◌%◌, List, [], ◌∷◌, ◌++◌, map, leb, ltb, eqb, length, drop, Float}
 use Rattle.std.specs.Float.{binary64}
 use Rattle.std.specs.Float.Ieee.{of_bits, to_bits, nan_bits}
 use Rattle.binary64.specs.Number.{pick}
-use Rattle.format.specs.declared.Whole.{Whole}
-use Rattle.format.specs.declared.Real.{Real}
 use Rattle.format.specs.declared.Settings.{Settings}
-use Rattle.format.specs.declared.Setting.{Setting}
-use Rattle.format.specs.declared.Setting.TheVariants.{Limit, Tolerance, Step, StartX, StartY, Room, Unknown, NotANumber}
+use Rattle.format.specs.Setting.{Setting, Limit, Tolerance, Step, StartX, StartY, Room, Unknown, NotANumber}
 use Rattle.format.specs.Bytes.{number, bytes, numbers, all_bytes}
 use Rattle.format.specs.Content.{Content, vertex_count, triangle_count, max_vertices, max_triangles, max_settings}
 use Rattle.format.specs.Refusal.{◌then◌, each, over, unlike, vertex_fault, neighbour_fault, tag_fault, coordinate_fault, setting_fault, present, missing}
@@ -63,16 +60,16 @@ in_turn last [] = 0
 in_turn last (x ∷ xs) = pick (ltb last (item_kind x)) 0 5 then setting_fault (item_setting x) then in_turn (item_kind x) xs
 
 abbrev pub no_settings : Settings
-no_settings = record { limit = Whole.Absent; tolerance = Real.Absent; step = Real.Absent; x = Real.Absent; y = Real.Absent; room = Whole.Absent }
+no_settings = record { limit = None; tolerance = None; step = None; x = None; y = None; room = None }
 
 -- the settings with one more
 unfoldable pub adding : Settings → Setting → Settings
-adding s (Limit v) = record { limit = Whole.Given v; tolerance = s.tolerance; step = s.step; x = s.x; y = s.y; room = s.room }
-adding s (Tolerance v) = record { limit = s.limit; tolerance = Real.Given v; step = s.step; x = s.x; y = s.y; room = s.room }
-adding s (Step v) = record { limit = s.limit; tolerance = s.tolerance; step = Real.Given v; x = s.x; y = s.y; room = s.room }
-adding s (StartX v) = record { limit = s.limit; tolerance = s.tolerance; step = s.step; x = Real.Given v; y = s.y; room = s.room }
-adding s (StartY v) = record { limit = s.limit; tolerance = s.tolerance; step = s.step; x = s.x; y = Real.Given v; room = s.room }
-adding s (Room v) = record { limit = s.limit; tolerance = s.tolerance; step = s.step; x = s.x; y = s.y; room = Whole.Given v }
+adding s (Limit v) = record { limit = Some v; tolerance = s.tolerance; step = s.step; x = s.x; y = s.y; room = s.room }
+adding s (Tolerance v) = record { limit = s.limit; tolerance = Some v; step = s.step; x = s.x; y = s.y; room = s.room }
+adding s (Step v) = record { limit = s.limit; tolerance = s.tolerance; step = Some v; x = s.x; y = s.y; room = s.room }
+adding s (StartX v) = record { limit = s.limit; tolerance = s.tolerance; step = s.step; x = Some v; y = s.y; room = s.room }
+adding s (StartY v) = record { limit = s.limit; tolerance = s.tolerance; step = s.step; x = s.x; y = Some v; room = s.room }
+adding s (Room v) = record { limit = s.limit; tolerance = s.tolerance; step = s.step; x = s.x; y = s.y; room = Some v }
 adding s Unknown = s
 adding s NotANumber = s
 

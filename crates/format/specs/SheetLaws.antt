@@ -7,8 +7,8 @@ use Rattle.std.specs.Float.Ieee.{of_bits, to_bits}
 use Rattle.binary64.specs.Number.{pick}
 use Rattle.format.specs.Bytes.{numbers}
 use Rattle.format.specs.Content.{Content, vertex_count, triangle_count, max_vertices, max_triangles, max_settings}
-use Rattle.format.specs.Refusal.{◌then◌, each, over, unlike, vertex_fault, neighbour_fault, tag_fault, coordinate_fault, setting_fault, present, missing, refusal_of}
-use Rattle.format.specs.Sheet.{item_of, section, bytes_of, count, behind, from2, from3, from4, from5, leftover, vertices_in, triangles_in, neighbours_in, tags_in, items_in, content_of, in_turn, head_fault, vertices_fault, triangles_fault, neighbours_fault, tags_fault, settings_fault, fault_of, accepted, refused, decide, parse}
+use Rattle.format.specs.Refusal.{each, over, unlike, vertex_fault, neighbour_fault, tag_fault, coordinate_fault, setting_fault, present, missing, refusal_of}
+use Rattle.format.specs.Sheet.{item_of, bytes_of, count, behind, from2, from3, from4, from5, leftover, vertices_in, triangles_in, neighbours_in, tags_in, items_in, content_of, in_turn, head_fault, vertices_fault, triangles_fault, neighbours_fault, tags_fault, settings_fault, fault_of, accepted, refused, decide, parse}
 use Rattle.format.specs.BytesLaws.{length-numbers}
 use Rattle.format.specs.RefusalLaws.{Neither, neither, then_none, passes, pick_true}
 use Rattle.format.specs.SectionLaws.{Head, head_sound, head_none, length-section, over-le, le-over, unlike-eq, eq-unlike}

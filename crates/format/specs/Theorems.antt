@@ -2,7 +2,7 @@
 -- is written as is read as that content (`bytes-parse`). What is accepted meets every range of document 01's section Sheet (`parse_sound`), and what meets them all is
 -- accepted (`parse_complete`).
 -- Assumes nothing.
-use Rattle.std.specs.Prelude.{ℕ, suc, ◌+◌, ◌-◌, ◌*◌, ◌^◌, ◌≤◌, ◌<◌, ◌≡◌, refl, Bool, true, false, ◌&&◌, ◌⊎◌, List, [], ◌∷◌, ◌++◌, map, T, leb, ltb, eqb, length, get_or, drop, Float}
+use Rattle.std.specs.Prelude.{ℕ, Option, Some, None, is_some, suc, ◌*◌, ◌^◌, ◌≤◌, ◌<◌, ◌≡◌, refl, Bool, true, false, ◌&&◌, ◌⊎◌, List, [], ◌∷◌, ◌++◌, map, T, leb, ltb, eqb, length, get_or, drop, Float}
 use Rattle.std.proofs.Common.{zero-le, suc-le-suc, sym, ap, ap₂, ◌∙◌, subst, inl, inr, append-nil, arith, ltb-true, lt-ltb, leb-true, le-leb, eqb-true, eq-eqb}
 use Rattle.std.proofs.Math.Bool
 use Rattle.std.proofs.lemmas.List.{length-map}
@@ -11,16 +11,13 @@ use Rattle.std.specs.Float.Ieee.{of_bits, to_bits, nan_bits, is_nan, lt, le, eq}
 use Rattle.std.specs.Float.Ieee.Bits.{of_bits-to_bits, to_bits-lt, nan_bits_is}
 use Rattle.binary64.specs.Constants.{plus_zero}
 use Rattle.binary64.specs.Number.{pick}
-use Rattle.format.specs.declared.Whole.{Whole}
-use Rattle.format.specs.declared.Real.{Real}
 use Rattle.format.specs.declared.Settings.{Settings}
-use Rattle.format.specs.declared.Setting.{Setting}
-use Rattle.format.specs.declared.Setting.TheVariants.{Limit, Tolerance, Step, StartX, StartY, Room}
-use Rattle.format.specs.Bytes.{Bytes, number, bytes}
+use Rattle.format.specs.Setting.{Setting, Limit, Tolerance, Step, StartX, StartY, Room}
+use Rattle.format.specs.Bytes.{Bytes}
 use Rattle.format.specs.Content.{Content, vertex_count, triangle_count, max_vertices, max_triangles, max_settings, max_tag, max_limit, max_room, no_neighbour}
-use Rattle.format.specs.Refusal.{◌then◌, each, over, unlike, vertex_fault, neighbour_fault, tag_fault, real_fault, finite, coordinate, positive, coordinate_fault, whole_fault, setting_fault, whole_setting, real_setting, present, has_whole, has_real, missing, refusal_of}
-use Rattle.format.specs.Sheet.{item_of, item_setting, in_turn, no_settings, gathered, section, bytes_of, count, behind, from2, from3, from4, from5, leftover, vertices_in, triangles_in, neighbours_in, tags_in, items_in, content_of, accepted, refused, parse}
-use Rattle.format.specs.Range.{Coordinate, Finite, Between, OfWhole, OfReal, InRange, Double, Doubles}
+use Rattle.format.specs.Refusal.{each, over, unlike, vertex_fault, neighbour_fault, tag_fault, real_fault, finite, coordinate, positive, coordinate_fault, whole_fault, setting_fault, given, present, missing, refusal_of}
+use Rattle.format.specs.Sheet.{item_of, item_setting, in_turn, no_settings, gathered, section, bytes_of, count, behind, from2, from3, from4, from5, leftover, vertices_in, triangles_in, neighbours_in, tags_in, items_in, content_of, accepted, parse}
+use Rattle.format.specs.Range.{Coordinate, Finite, Between, IfGiven, InRange, Double, Doubles}
 use Rattle.format.specs.Range as range
 use Rattle.format.specs.BytesLaws.{Under, under_nil, under_cons, under_head, under_tail, bytes_drop, length-numbers, numbers_under}
 use Rattle.format.specs.RefusalLaws.{Neither, neither, then_none, passes, pick_true, Both, both, and_true, proper, real_none, each_at, each_none, each_append}
@@ -276,25 +273,15 @@ whole_none low high v h = pick_true 0 7 (and_true (le-leb low v h.least) (le-leb
 
 -- ---- settings
 
-whole_each : (make : ℕ → Setting) (P : ℕ → Type 0) → ((v : ℕ) → setting_fault (make v) ≡ 0 → P v) → (w : Whole) → each setting_fault (whole_setting make w) ≡ 0 → OfWhole P w
+given_each : {A : Type 0} (make : A → Setting) (P : A → Type 0) → ((v : A) → setting_fault (make v) ≡ 0 → P v) → (w : Option A) → each setting_fault (given make w) ≡ 0 → IfGiven P w
 unfolding each
-whole_each make P f Whole.Absent h = tt
-whole_each make P f (Whole.Given v) h = f v (neither (setting_fault (make v)) 0 h).first
+given_each make P f None h = tt
+given_each make P f (Some v) h = f v (neither (setting_fault (make v)) 0 h).first
 
-each-whole : (make : ℕ → Setting) (P : ℕ → Type 0) → ((v : ℕ) → P v → setting_fault (make v) ≡ 0) → (w : Whole) → OfWhole P w → each setting_fault (whole_setting make w) ≡ 0
+each-given : {A : Type 0} (make : A → Setting) (P : A → Type 0) → ((v : A) → P v → setting_fault (make v) ≡ 0) → (w : Option A) → IfGiven P w → each setting_fault (given make w) ≡ 0
 unfolding each
-each-whole make P f Whole.Absent h = refl
-each-whole make P f (Whole.Given v) h = then_none (f v h) refl
-
-real-each : (make : Float → Setting) (P : Float → Type 0) → ((v : Float) → setting_fault (make v) ≡ 0 → P v) → (w : Real) → each setting_fault (real_setting make w) ≡ 0 → OfReal P w
-unfolding each
-real-each make P f Real.Absent h = tt
-real-each make P f (Real.Given v) h = f v (neither (setting_fault (make v)) 0 h).first
-
-each-real : (make : Float → Setting) (P : Float → Type 0) → ((v : Float) → P v → setting_fault (make v) ≡ 0) → (w : Real) → OfReal P w → each setting_fault (real_setting make w) ≡ 0
-unfolding each
-each-real make P f Real.Absent h = refl
-each-real make P f (Real.Given v) h = then_none (f v h) refl
+each-given make P f None h = refl
+each-given make P f (Some v) h = then_none (f v h) refl
 
 split : (xs ys : List Setting) → each setting_fault (xs ++ ys) ≡ 0 → Neither (each setting_fault xs) (each setting_fault ys)
 split xs ys h = neither _ _ (sym (each_append setting_fault xs ys) ∙ h)
@@ -303,39 +290,39 @@ join : (xs ys : List Setting) → each setting_fault xs ≡ 0 → each setting_f
 join xs ys p q = each_append setting_fault xs ys ∙ then_none p q
 
 record Values (s : Settings) : Type 0 where
-  limit : OfWhole (Between 0 max_limit) s.limit
-  tolerance : OfReal Finite s.tolerance
-  step : OfReal range.Step s.step
-  x : OfReal Coordinate s.x
-  y : OfReal Coordinate s.y
-  room : OfWhole (Between 1 max_room) s.room
+  limit : IfGiven (Between 0 max_limit) s.limit
+  tolerance : IfGiven Finite s.tolerance
+  step : IfGiven range.Step s.step
+  x : IfGiven Coordinate s.x
+  y : IfGiven Coordinate s.y
+  room : IfGiven (Between 1 max_room) s.room
 
 values_in_lem : (s : Settings) → each setting_fault (present s) ≡ 0 → Values s
 unfolding present setting_fault
 values_in_lem s h =
-    let p1 : Neither _ _ = split (whole_setting Limit s.limit) _ h in
-    let p2 : Neither _ _ = split (real_setting Tolerance s.tolerance) _ p1.second in
-    let p3 : Neither _ _ = split (real_setting Step s.step) _ p2.second in
-    let p4 : Neither _ _ = split (real_setting StartX s.x) _ p3.second in
-    let p5 : Neither _ _ = split (real_setting StartY s.y) _ p4.second in
+    let p1 : Neither _ _ = split (given Limit s.limit) _ h in
+    let p2 : Neither _ _ = split (given Tolerance s.tolerance) _ p1.second in
+    let p3 : Neither _ _ = split (given Step s.step) _ p2.second in
+    let p4 : Neither _ _ = split (given StartX s.x) _ p3.second in
+    let p5 : Neither _ _ = split (given StartY s.y) _ p4.second in
     record {
-      limit = whole_each Limit (Between 0 max_limit) (whole_in 0 max_limit) s.limit p1.first;
-      tolerance = real-each Tolerance Finite finite_in s.tolerance p2.first;
-      step = real-each Step range.Step step_in s.step p3.first;
-      x = real-each StartX Coordinate coordinate_in s.x p4.first;
-      y = real-each StartY Coordinate coordinate_in s.y p5.first;
-      room = whole_each Room (Between 1 max_room) (whole_in 1 max_room) s.room p5.second;
+      limit = given_each Limit (Between 0 max_limit) (whole_in 0 max_limit) s.limit p1.first;
+      tolerance = given_each Tolerance Finite finite_in s.tolerance p2.first;
+      step = given_each Step range.Step step_in s.step p3.first;
+      x = given_each StartX Coordinate coordinate_in s.x p4.first;
+      y = given_each StartY Coordinate coordinate_in s.y p5.first;
+      room = given_each Room (Between 1 max_room) (whole_in 1 max_room) s.room p5.second;
     }
 
 values_none : (s : Settings) → Values s → each setting_fault (present s) ≡ 0
 unfolding present setting_fault
 values_none s h =
-    join (whole_setting Limit s.limit) _ (each-whole Limit (Between 0 max_limit) (whole_none 0 max_limit) s.limit h.limit)
-    (join (real_setting Tolerance s.tolerance) _ (each-real Tolerance Finite finite_none s.tolerance h.tolerance)
-    (join (real_setting Step s.step) _ (each-real Step range.Step step_none s.step h.step)
-    (join (real_setting StartX s.x) _ (each-real StartX Coordinate coordinate_none s.x h.x)
-    (join (real_setting StartY s.y) _ (each-real StartY Coordinate coordinate_none s.y h.y)
-    (each-whole Room (Between 1 max_room) (whole_none 1 max_room) s.room h.room)))))
+    join (given Limit s.limit) _ (each-given Limit (Between 0 max_limit) (whole_none 0 max_limit) s.limit h.limit)
+    (join (given Tolerance s.tolerance) _ (each-given Tolerance Finite finite_none s.tolerance h.tolerance)
+    (join (given Step s.step) _ (each-given Step range.Step step_none s.step h.step)
+    (join (given StartX s.x) _ (each-given StartX Coordinate coordinate_none s.x h.x)
+    (join (given StartY s.y) _ (each-given StartY Coordinate coordinate_none s.y h.y)
+    (each-given Room (Between 1 max_room) (whole_none 1 max_room) s.room h.room)))))
 
 same : (a b : Bool) → Bool.beq a b ≡ true → a ≡ b
 same true true h = refl
@@ -348,21 +335,21 @@ beq true = refl
 beq false = refl
 
 record Complete (s : Settings) : Type 0 where
-  step : has_real s.step ≡ true
-  room : has_whole s.room ≡ true
-  start : has_real s.x ≡ has_real s.y
+  step : is_some s.step ≡ true
+  room : is_some s.room ≡ true
+  start : is_some s.x ≡ is_some s.y
 
 complete : (s : Settings) → missing s ≡ 0 → Complete s
 unfolding missing
 complete s h =
-    let p : Both (has_real s.step && has_whole s.room) (Bool.beq (has_real s.x) (has_real s.y)) = both _ _ (passes _ 4 h) in
-    let q : Both (has_real s.step) (has_whole s.room) = both _ _ p.left in
+    let p : Both (is_some s.step && is_some s.room) (Bool.beq (is_some s.x) (is_some s.y)) = both _ _ (passes _ 4 h) in
+    let q : Both (is_some s.step) (is_some s.room) = both _ _ p.left in
     record { step = q.left; room = q.right; start = same _ _ p.right }
 
 none_missing : (s : Settings) → Complete s → missing s ≡ 0
 unfolding missing
 none_missing s h =
-    pick_true 0 5 (and_true (and_true h.step h.room) (ap (λ (t : Bool). Bool.beq (has_real s.x) t) (sym h.start) ∙ beq (has_real s.x)))
+    pick_true 0 5 (and_true (and_true h.step h.room) (ap (λ (t : Bool). Bool.beq (is_some s.x) t) (sym h.start) ∙ beq (is_some s.x)))
 
 -- ---- range
 

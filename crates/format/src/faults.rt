@@ -1,101 +1,121 @@
-// What refuses a single number, by document 01's table; 0 is nothing.
-ghost use Rattle.std.specs.Prelude.{◌≡◌, not};
+// What refuses a single number, by document 01's table.
+ghost use Rattle.std.specs.Prelude.{◌≡◌};
 ghost use Rattle.std.specs.Float.{binary64};
-ghost use Rattle.std.specs.Float.Ieee.{nan_bits, of_bits};
+ghost use Rattle.std.specs.Float.Ieee.{is_nan, nan_bits, of_bits};
+ghost use Rattle.binary64.specs.Number.{pick};
+ghost use Rattle.refusal.specs.Refusal.{fault};
+ghost use Rattle.format.specs.Setting.{number_read};
 ghost use Rattle.format.specs.Refusal.{finite, positive, real_fault, coordinate_fault, whole_fault, vertex_fault, neighbour_fault, tag_fault};
+ghost use Rattle.format.specs.Tries.{Tries};
+ghost use Rattle.std.specs.Fn.{FnReturnsAt};
 
-// outside its set
-const OTHER: u32 = 4;
+use refusal::Refusal;
 
-const NOT_A_NUMBER: u32 = 6;
-
-// infinite, or outside its range
-const OUTSIDE: u32 = 7;
-
-pub fn vertex_fault(x: u32, n: usize) -> u32
-    ensures { result ≡ vertex_fault n x }
+pub fn vertex_fault(x: u32, n: usize) -> Result<(), Refusal>
+    ensures { fault result ≡ vertex_fault n x }
 {
-    if (x as usize) < n { 0 } else { OTHER }
+    if (x as usize) < n {
+        Ok(())
+    } else {
+        Err(Refusal::OutsideSet)
+    }
 }
 
-pub fn neighbour_fault(x: u32, t: usize) -> u32
-    ensures { result ≡ neighbour_fault t x }
+pub fn neighbour_fault(x: u32, t: usize) -> Result<(), Refusal>
+    ensures { fault result ≡ neighbour_fault t x }
 {
-    if x == crate::NO_NEIGHBOUR {
-        return 0;
+    if x == crate::NO_NEIGHBOUR || (x as usize) < t {
+        Ok(())
+    } else {
+        Err(Refusal::OutsideSet)
     }
-    if (x as usize) < t { 0 } else { OTHER }
 }
 
-pub fn tag_fault(x: u8) -> u32
-    ensures { result ≡ tag_fault x }
+pub fn tag_fault(x: u8) -> Result<(), Refusal>
+    ensures { fault result ≡ tag_fault x }
 {
-    if x <= crate::MAX_TAG { 0 } else { OTHER }
+    if x <= crate::MAX_TAG {
+        Ok(())
+    } else {
+        Err(Refusal::OutsideSet)
+    }
 }
 
-pub fn whole_fault(low: u64, high: u64, v: u64) -> u32
-    ensures { result ≡ whole_fault low high v }
+pub fn whole_fault(low: u64, high: u64, v: u64) -> Result<(), Refusal>
+    ensures { fault result ≡ whole_fault low high v }
 {
-    if v < low {
-        return OUTSIDE;
+    if low <= v && v <= high {
+        Ok(())
+    } else {
+        Err(Refusal::OutOfRange)
     }
-    if v <= high { 0 } else { OUTSIDE }
 }
 
-pub fn coordinate_fault(x: f64) -> u32
-    ensures { result ≡ coordinate_fault x }
+// A NaN is refused first, and then a number that is not as it should be.
+fn real_fault(x: f64, good: bool) -> Result<(), Refusal>
+    ensures { fault result ≡ pick (is_nan x) 6 (pick good 0 7) }
 {
-    if x != x {
-        return NOT_A_NUMBER;
+    match (x.is_nan(), good) {
+        (true, _) => Err(Refusal::NotANumber),
+        (false, true) => Ok(()),
+        (false, false) => Err(Refusal::OutOfRange),
     }
-    if -1048576.0 <= x {
-        if x <= 1048576.0 {
-            return 0;
-        }
-    }
-    OUTSIDE
+}
+
+#[tactic(auto, unfolding(crate::specs::Refusal::coordinate))]
+pub fn coordinate_fault(x: f64) -> Result<(), Refusal>
+    ensures { fault result ≡ coordinate_fault x }
+{
+    real_fault(x, -1048576.0 <= x && x <= 1048576.0)
 }
 
 // Finite, as a tolerance has to be.
-pub fn finite_fault(x: f64) -> u32
-    ensures { result ≡ real_fault finite x }
+#[tactic(auto, using(crate::proofs::Laws::finite_is))]
+pub fn finite_fault(x: f64) -> Result<(), Refusal>
+    ensures { fault result ≡ real_fault finite x }
 {
-    let infinity = f64::from_bits(0x7ff0000000000000);
-    if x != x {
-        return NOT_A_NUMBER;
-    }
-    if x < infinity {
-        if -infinity < x {
-            return 0;
-        }
-    }
-    OUTSIDE
+    real_fault(x, x.is_finite())
 }
 
 // Finite and above 0, as a step has to be.
-pub fn step_fault(x: f64) -> u32
-    ensures { result ≡ real_fault positive x }
+#[tactic(auto, using(crate::proofs::Laws::finite_is), unfolding(crate::specs::Refusal::positive))]
+pub fn step_fault(x: f64) -> Result<(), Refusal>
+    ensures { fault result ≡ real_fault positive x }
 {
-    let early = finite_fault(x);
-    if early != 0 {
-        return early;
-    }
-    if 0.0 < x { 0 } else { OUTSIDE }
+    real_fault(x, x.is_finite() && 0.0 < x)
 }
 
 // Whether a pattern is a NaN's: its exponent field is all ones and its digits are not 0.
-pub fn nan_pattern(bits: u64) -> bool
+fn nan_pattern(bits: u64) -> bool
     ensures { result ≡ nan_bits binary64 bits }
 {
     0x7ff0000000000000 < bits % 0x8000000000000000
 }
 
-// A coordinate by its pattern.
-pub fn pattern_fault(bits: u64) -> u32
-    ensures { result ≡ coordinate_fault (of_bits binary64 bits) }
+// The number of a pattern.
+pub fn number_of(bits: u64) -> Result<f64, Refusal>
+    ensures { result ≡ number_read bits }
 {
     if nan_pattern(bits) {
-        return NOT_A_NUMBER;
+        return Err(Refusal::NotANumber);
     }
-    coordinate_fault(f64::from_bits(bits))
+    Ok(f64::from_bits(bits))
+}
+
+// A coordinate by its pattern.
+pub fn pattern_fault(bits: u64) -> Result<(), Refusal>
+    ensures { fault result ≡ coordinate_fault (of_bits binary64 bits) }
+{
+    coordinate_fault(number_of(bits)?)
+}
+
+// The first refusal among a list's elements, each in turn.
+pub fn each<T, F: Fn(&T) -> Result<(), Refusal>>(xs: &[T], test: F) -> Result<(), Refusal>
+    requires { F.IsAlwaysCallable test }
+    ensures { Tries (FnReturnsAt F.Fn test) xs.now result }
+{
+    for x in xs {
+        test(x)?;
+    }
+    Ok(())
 }

@@ -1,142 +1,72 @@
 // Settings: an item of section 5 is read into a Setting, and that is taken apart.
 ghost use Rattle.std.specs.Prelude.{◌≡◌};
-ghost use Rattle.std.specs.Bool.{beq};
-ghost use Rattle.format.specs.Refusal.{setting_fault, missing, has_whole, has_real};
-ghost use Rattle.format.specs.Sheet.{setting_of, adding, no_settings};
+ghost use Rattle.refusal.specs.Refusal.{fault};
+ghost use Rattle.format.specs.Setting.{said, read_of};
+ghost use Rattle.format.specs.Refusal.{setting_fault, missing};
+ghost use Rattle.format.specs.Sheet.{setting_of, adding};
 
-use crate::{Real, Setting, Settings, Whole};
+use crate::faults::{coordinate_fault, finite_fault, number_of, step_fault, whole_fault};
+use crate::{Setting, Settings};
+use refusal::Refusal;
 
 // A kind and a value, as section 5 has them.
-pub fn setting_of(kind: u8, value: u64) -> Setting
-    ensures { result ≡ setting_of kind value }
+#[tactic(auto, unfolding(crate::specs::Sheet::setting_of))]
+pub fn setting_of(kind: u8, value: u64) -> Result<Setting, Refusal>
+    ensures { result ≡ read_of (setting_of kind value) }
 {
     match kind {
-        1 => return Setting::Limit(value),
-        6 => return Setting::Room(value),
-        2..=5 => (),
-        _ => return Setting::Unknown,
-    }
-    if crate::faults::nan_pattern(value) {
-        return Setting::NotANumber;
-    }
-    let x = f64::from_bits(value);
-    match kind {
-        2 => Setting::Tolerance(x),
-        3 => Setting::Step(x),
-        4 => Setting::StartX(x),
-        _ => Setting::StartY(x),
+        1 => Ok(Setting::Limit(value)),
+        2 => Ok(Setting::Tolerance(number_of(value)?)),
+        3 => Ok(Setting::Step(number_of(value)?)),
+        4 => Ok(Setting::StartX(number_of(value)?)),
+        5 => Ok(Setting::StartY(number_of(value)?)),
+        6 => Ok(Setting::Room(value)),
+        _ => Err(Refusal::Setting),
     }
 }
 
-pub fn setting_fault(s: Setting) -> u32
-    ensures { result ≡ setting_fault s }
+#[tactic(auto, unfolding(crate::specs::Refusal::setting_fault))]
+pub fn setting_fault(s: Setting) -> Result<(), Refusal>
+    ensures { fault result ≡ setting_fault (said s) }
 {
     match s {
-        Setting::Limit(v) => crate::faults::whole_fault(0, crate::MAX_LIMIT, v),
-        Setting::Tolerance(x) => crate::faults::finite_fault(x),
-        Setting::Step(x) => crate::faults::step_fault(x),
-        Setting::StartX(x) => crate::faults::coordinate_fault(x),
-        Setting::StartY(x) => crate::faults::coordinate_fault(x),
-        Setting::Room(v) => crate::faults::whole_fault(1, crate::MAX_ROOM, v),
-        Setting::Unknown => 5,
-        Setting::NotANumber => 6,
-    }
-}
-
-pub fn none() -> Settings
-    ensures { result ≡ no_settings }
-{
-    Settings {
-        limit: Whole::Absent,
-        tolerance: Real::Absent,
-        step: Real::Absent,
-        x: Real::Absent,
-        y: Real::Absent,
-        room: Whole::Absent,
-    }
-}
-
-// Settings of their six parts.
-fn settings(limit: Whole, tolerance: Real, step: Real, x: Real, y: Real, room: Whole) -> Settings
-    ensures { result ≡ record { limit = limit; tolerance = tolerance; step = step; x = x; y = y; room = room } }
-{
-    Settings {
-        limit,
-        tolerance,
-        step,
-        x,
-        y,
-        room,
+        Setting::Limit(v) => whole_fault(0, crate::MAX_LIMIT, v),
+        Setting::Tolerance(x) => finite_fault(x),
+        Setting::Step(x) => step_fault(x),
+        Setting::StartX(x) | Setting::StartY(x) => coordinate_fault(x),
+        Setting::Room(v) => whole_fault(1, crate::MAX_ROOM, v),
     }
 }
 
 // The settings with one more.
+#[tactic(auto, unfolding(crate::specs::Sheet::adding))]
 pub fn add(s: Settings, one: Setting) -> Settings
-    ensures { result ≡ adding s one }
+    ensures { result ≡ adding s (said one) }
 {
-    let limit = s.limit;
-    let tolerance = s.tolerance;
-    let step = s.step;
-    let x = s.x;
-    let y = s.y;
-    let room = s.room;
     match one {
-        Setting::Limit(v) => settings(Whole::Given(v), tolerance, step, x, y, room),
-        Setting::Tolerance(v) => settings(limit, Real::Given(v), step, x, y, room),
-        Setting::Step(v) => settings(limit, tolerance, Real::Given(v), x, y, room),
-        Setting::StartX(v) => settings(limit, tolerance, step, Real::Given(v), y, room),
-        Setting::StartY(v) => settings(limit, tolerance, step, x, Real::Given(v), room),
-        Setting::Room(v) => settings(limit, tolerance, step, x, y, Whole::Given(v)),
-        Setting::Unknown => s,
-        Setting::NotANumber => s,
-    }
-}
-
-pub fn has_whole(w: Whole) -> bool
-    ensures { result ≡ has_whole w }
-{
-    match w {
-        Whole::Absent => false,
-        Whole::Given(_) => true,
-    }
-}
-
-pub fn has_real(w: Real) -> bool
-    ensures { result ≡ has_real w }
-{
-    match w {
-        Real::Absent => false,
-        Real::Given(_) => true,
-    }
-}
-
-// Both are given, or neither is.
-fn together(x: Real, y: Real) -> bool
-    ensures { result ≡ beq (has_real x) (has_real y) }
-{
-    match x {
-        Real::Absent => match y {
-            Real::Absent => true,
-            Real::Given(_) => false,
+        Setting::Limit(v) => Settings {
+            limit: Some(v),
+            ..s
         },
-        Real::Given(_) => has_real(y),
+        Setting::Tolerance(x) => Settings {
+            tolerance: Some(x),
+            ..s
+        },
+        Setting::Step(x) => Settings { step: Some(x), ..s },
+        Setting::StartX(x) => Settings { x: Some(x), ..s },
+        Setting::StartY(x) => Settings { y: Some(x), ..s },
+        Setting::Room(v) => Settings { room: Some(v), ..s },
     }
 }
 
 // A step, a room or half a start is missing.
-pub fn missing_fault(s: Settings) -> u32
-    ensures { result ≡ missing s }
+#[tactic(auto, unfolding(crate::specs::Refusal::missing))]
+pub fn missing_fault(s: Settings) -> Result<(), Refusal>
+    ensures { fault result ≡ missing s }
 {
-    let step = s.step;
-    let x = s.x;
-    let y = s.y;
-    let room = s.room;
-    if has_real(step) {
-        if has_whole(room) {
-            if together(x, y) {
-                return 0;
-            }
-        }
+    if s.step.is_some() && s.room.is_some() && s.x.is_some() == s.y.is_some() {
+        Ok(())
+    } else {
+        Err(Refusal::Setting)
     }
-    5
 }

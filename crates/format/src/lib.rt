@@ -20,33 +20,19 @@ pub const MAX_ROOM: u64 = 1000000;
 // −1 as a u32
 pub const NO_NEIGHBOUR: u32 = 4294967295;
 
-// A setting that is a whole number.
-#[derive(Clone, Copy)]
-pub enum Whole {
-    Absent,
-    Given(u64),
-}
-
-// A setting that is a binary64 number.
-#[derive(Clone, Copy)]
-pub enum Real {
-    Absent,
-    Given(f64),
-}
-
-// The six settings; x and y are the start's.
-#[derive(Clone, Copy)]
+// The six settings; x and y are the start's. By default none is given.
+#[derive(Clone, Copy, Debug, Default, PartialEq)]
 pub struct Settings {
-    pub limit: Whole,
-    pub tolerance: Real,
-    pub step: Real,
-    pub x: Real,
-    pub y: Real,
-    pub room: Whole,
+    pub limit: Option<u64>,
+    pub tolerance: Option<f64>,
+    pub step: Option<f64>,
+    pub x: Option<f64>,
+    pub y: Option<f64>,
+    pub room: Option<u64>,
 }
 
 // What an item of section 5 says.
-#[derive(Clone, Copy)]
+#[derive(Clone, Copy, Debug, PartialEq)]
 pub enum Setting {
     Limit(u64),
     Tolerance(f64),
@@ -54,8 +40,14 @@ pub enum Setting {
     StartX(f64),
     StartY(f64),
     Room(u64),
-    // a kind that is none of the six
-    Unknown,
-    // a binary64 setting whose pattern is a NaN's
-    NotANumber,
+}
+
+// What a sheet is written of: the flat lists of its numbers, and its settings.
+#[derive(Clone, Copy)]
+pub struct Content<'a> {
+    pub vertices: &'a [f64],
+    pub triangles: &'a [u32],
+    pub neighbours: &'a [u32],
+    pub tags: &'a [u8],
+    pub settings: Settings,
 }

@@ -6,13 +6,14 @@ ghost use Rattle.binary64.specs.Number.{pick};
 ghost use Rattle.stretch.specs.Stretch.{part};
 ghost use Rattle.model.specs.Space as Space;
 ghost use Rattle.image.specs.Calls as Calls;
-ghost use Rattle.image.specs.Calls.{buffers, answered, sought_at};
+ghost use Rattle.refusal.specs.Refusal.{fault};
+ghost use Rattle.image.specs.Calls.{buffers, sought_at};
 ghost use Rattle.image.specs.Accepted.{Accepted};
 ghost use Rattle.image.specs.Exits.{moved_run};
 ghost use Rattle.work.specs.Ready.{Comes};
 
-use image::Answer;
-use work::{Mark, Plan, Run, Stand};
+use refusal::Refusal;
+use work::{Kept, Plan, Run, Stand};
 
 pub fn least(a: usize, b: usize) -> usize
     ensures { result ≡ min a b }
@@ -28,22 +29,22 @@ pub fn farthest(t: usize, limit: usize) -> usize
     limit + 1 + Run::FACTOR * t
 }
 
-fn counts_fault(p: Plan) -> u32
-    ensures { result ≡ Calls.counts_fault p }
+fn counts_fault(p: Plan) -> Result<(), Refusal>
+    ensures { fault result ≡ Calls.counts_fault p }
 {
     let good = (p.n <= 4096)
         & ((p.t <= 8192) & ((p.limit <= 100000) & ((1 <= p.room) & (p.room <= 1000000))));
-    if good { 0 } else { 10 }
+    if good { Ok(()) } else { Err(Refusal::Record) }
 }
 
-// 8 where a buffer of these lengths is too short.
-fn space_fault(p: Plan, floats: usize, words: usize, path: usize) -> u32
+// A buffer of these lengths may be too short.
+fn space_fault(p: Plan, floats: usize, words: usize, path: usize) -> Result<(), Refusal>
     requires { (p.n ≤ 4096) × (p.t ≤ 8192) × (p.limit ≤ 100000) × (p.room ≤ 1000000) }
-    ensures { result ≡ Calls.short_fault p floats words path }
+    ensures { fault result ≡ Calls.short_fault p floats words path }
 {
-    let short = (floats < 12 * p.n + 12 * p.t + p.limit + 32)
-        | ((words < 8 * p.n + 32 * p.t + 32) | (path < 2 * p.room));
-    if short { 8 } else { 0 }
+    let needed = p.space();
+    let short = needed.lacks(floats, words, path);
+    if short { Err(Refusal::Space) } else { Ok(()) }
 }
 
 // How many norms there may be: one more than the limit where the field has its end.
@@ -74,29 +75,26 @@ fn stand_sound(p: Plan, s: Stand) -> bool
     (s.place <= far) & ((1 <= s.norms) & ((s.norms <= norms) & ends))
 }
 
-fn mark_sound(p: Plan, mark: Mark) -> bool
+fn mark_sound(p: Plan, mark: Option<Kept>) -> bool
     requires { (p.t ≤ 8192) × (p.limit ≤ 100000) }
     ensures { result ≡ Calls.mark_sound p mark }
 {
     match mark {
-        Mark::Nothing => true,
-        Mark::At(k) => (k.place <= farthest(p.t, p.limit))
+        None => true,
+        Some(k) => (k.place <= farthest(p.t, p.limit))
             & ((1 <= k.norms) & (k.norms <= p.limit + 1)),
     }
 }
 
-// Whether the k words from `at` are −1's or below t.
-fn all_none_or_below(words: &[u32], at: usize, t: u32, k: usize) -> bool
-    requires { at + k ≤ length words.now }
-    ensures { result ≡ Calls.all_none_or_below t (part words.now at k) }
+// Whether the words are −1's or below t.
+fn all_none_or_below(words: &[u32], t: u32) -> bool
+    ensures { result ≡ Calls.all_none_or_below t words.now }
 {
-    let mut good = true;
-    for j in 0..k {
-        let i = at + j;
-        let w = words[i];
-        good = good & ((w == 4294967295) | (w < t));
-    }
-    good
+    // No early end, so that several words are compared at once.
+    words.iter().fold(
+        true,
+        |good, w| good & ((*w == format::NO_NEIGHBOUR) | (*w < t)),
+    )
 }
 
 // The indices in the words.
@@ -106,50 +104,37 @@ fn words_sound(p: Plan, words: &[u32]) -> bool
 {
     let n = p.n;
     let t = p.t;
-    let corners = sparse::all_below(words, 0, n as u32, 3 * t);
-    let neighbours = all_none_or_below(words, 3 * t, t as u32, 3 * t);
-    let starts = sparse::starts_rise(words, n + 6 * t, n, 9 * t + n);
-    let columns = sparse::all_below(words, 2 * n + 6 * t + 1, n as u32, 9 * t + n);
+    let starts_at = n + 6 * t;
+    let columns_at = starts_at + n + 1;
+    let count = 9 * t + n;
+    let corners = sparse::all_below(&words[..3 * t], n as u32);
+    let neighbours = all_none_or_below(&words[3 * t..6 * t], t as u32);
+    let starts = sparse::starts_rise(&words[starts_at..columns_at], count);
+    let columns = sparse::all_below(&words[columns_at..columns_at + count], n as u32);
     corners & (neighbours & (starts & columns))
 }
 
 // What refuses any call on this record and these buffers.
-pub fn held_fault(run: Run, floats: &[f64], words: &[u32], path: &[f64]) -> u32
-    ensures { result ≡ Calls.held_fault run (buffers floats.now words.now path.now) }
+pub fn held_fault(run: Run, floats: &[f64], words: &[u32], path: &[f64]) -> Result<(), Refusal>
+    ensures { fault result ≡ Calls.held_fault run (buffers floats.now words.now path.now) }
 {
     let p = run.plan;
-    let counts = counts_fault(p);
-    if counts != 0 {
-        return counts;
-    }
-    let short = space_fault(p, floats.len(), words.len(), path.len());
-    if short != 0 {
-        return short;
-    }
+    counts_fault(p)?;
+    space_fault(p, floats.len(), words.len(), path.len())?;
     let s = run.stand;
     let mark = run.mark;
     let sound = stand_sound(p, s) & (mark_sound(p, mark) & words_sound(p, words));
-    if sound { 0 } else { 10 }
-}
-
-// What a call answers.
-pub fn say(refused: u32, run: Run) -> Answer
-    ensures { result ≡ answered refused run }
-{
-    Answer { refused, run }
+    if sound { Ok(()) } else { Err(Refusal::Record) }
 }
 
 // The record at another place, with another count.
 pub fn moved(run: Run, stand: Stand, passes: u64) -> Run
     ensures { result ≡ moved_run run stand passes }
 {
-    let plan = run.plan;
-    let mark = run.mark;
     Run {
-        plan,
         stand,
-        mark,
         passes,
+        ..run
     }
 }
 

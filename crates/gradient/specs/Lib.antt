@@ -1,3 +1,4 @@
 pub mod Gradient
 pub mod GradientLaws
 pub mod Work
+pub mod WorkLaws

@@ -1,11 +1,9 @@
 // The gradient of the field on each triangle.
 #![tactic(auto)]
 
-ghost use Rattle.std.specs.Prelude.{◌≡◌, ◌+◌, ◌*◌, ◌≤◌, ◌<◌, length};
-ghost use Rattle.stretch.specs.Stretch.{splice};
-ghost use Rattle.gradient.specs.Gradient.{triangle_gradient};
-ghost use Rattle.mesh.specs.Work.{Meshed};
-ghost use Rattle.gradient.specs.Work.{Laid, gradient_in, gradients_in};
+ghost use Rattle.std.specs.Prelude.{◌≡◌, ◌*◌, ◌≤◌, ◌<◌, length};
+ghost use Rattle.gradient.specs.Gradient.{triangle_gradient, gradient_on, gradients};
+ghost use Rattle.mesh.specs.Mesh.{triangle_count};
 
 use mesh::Mesh;
 use plane::Point;
@@ -38,41 +36,28 @@ pub fn triangle_gradient(
     }
 }
 
-// The gradient on triangle t of the field that starts at u.
-pub fn gradient_in(floats: &[f64], words: &[u32], m: Mesh, u: usize, flat: f64, t: usize) -> Point
-    requires { (Meshed floats.now words.now m) × (u + m.n ≤ length floats.now) × (t < m.t) }
-    ensures { result ≡ gradient_in flat floats.now words.now m u t }
+// The gradient on triangle t of the field u.
+pub fn gradient_in(mesh: &Mesh, u: &[f64], flat: f64, t: usize) -> Point
+    requires { (length mesh.now.tags.now ≤ length u.now) × (t < triangle_count mesh.now.triangles.now) }
+    ensures { result ≡ gradient_on flat mesh.now.vertices.now u.now mesh.now.triangles.now t }
 {
-    let i = mesh::corner(words, m, t, 0);
-    let j = mesh::corner(words, m, t, 1);
-    let k = mesh::corner(words, m, t, 2);
-    let vi = mesh::vertex(floats, m, i);
-    let vj = mesh::vertex(floats, m, j);
-    let vk = mesh::vertex(floats, m, k);
-    let at_i = u + i;
-    let at_j = u + j;
-    let at_k = u + k;
-    triangle_gradient(flat, vi, vj, vk, floats[at_i], floats[at_j], floats[at_k])
+    let i = mesh.corner(t, 0);
+    let j = mesh.corner(t, 1);
+    let k = mesh.corner(t, 2);
+    let vi = mesh.vertex(i);
+    let vj = mesh.vertex(j);
+    let vk = mesh.vertex(k);
+    triangle_gradient(flat, vi, vj, vk, u[i], u[j], u[k])
 }
 
-// The gradients on all triangles, written from `at` on.
-pub fn compute_gradient_field(
-    floats: &mut [f64],
-    words: &[u32],
-    m: Mesh,
-    u: usize,
-    at: usize,
-    flat: f64,
-)
-    requires { Laid floats.old words.now m u at }
-    ensures { floats.new ≡ splice floats.old at (gradients_in flat floats.old words.now m u) }
+// The gradients on all triangles. By number: of a slice that is written through its chunks the check knows only the length.
+pub fn compute_gradient_field(mesh: &Mesh, u: &[f64], flat: f64, out: &mut [f64])
+    requires { (length mesh.now.tags.now ≤ length u.now) × (length out.old ≡ 2 * triangle_count mesh.now.triangles.now) }
+    ensures { out.new ≡ gradients flat mesh.now.vertices.now u.now mesh.now.triangles.now }
 {
-    let count = m.t;
-    for t in 0..count {
-        let g = gradient_in(floats, words, m, u, flat, t);
-        let k = at + 2 * t;
-        let l = k + 1;
-        floats[k] = g.x;
-        floats[l] = g.y;
+    for t in 0..mesh.triangle_count() {
+        let g = gradient_in(mesh, u, flat, t);
+        out[2 * t] = g.x;
+        out[2 * t + 1] = g.y;
     }
 }

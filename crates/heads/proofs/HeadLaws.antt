@@ -1,5 +1,5 @@
 -- The numbers of settings and the settings are inverse, and so are those of a head: what is put into lists that have the places is read as it was. What a check and a write that are not refused come to, by the format's theorems. Assumes nothing.
-use Rattle.std.specs.Prelude.{ℕ, ◌≤◌, Bool, false, ◌&&◌, ◌≡◌, Float, set, drop}
+use Rattle.std.specs.Prelude.{ℕ, ◌≤◌, Bool, false, ◌&&◌, ◌≡◌, Float, set, drop, Option, Some, None}
 use Rattle.std.proofs.Common.{arith, ◌∙◌}
 use Rattle.std.proofs.Math.Bool.{true}
 use Rattle.std.proofs.Math.Path.{refl, sym, ap}
@@ -8,10 +8,9 @@ use borrow.Author.Tests.{leb-true}
 use Rattle.std.proofs.Math.Dec.{leb}
 use Rattle.std.proofs.Math.ListN.{length, get_or, take}
 use Rattle.std.proofs.Math.Seq.{take-append_seam}
+use Rattle.std.proofs.lemmas.List.{set-get_or}
 use Rattle.binary64.specs.Number.{pick}
 use Rattle.binary64.specs.NumberLaws.{both}
-use Rattle.format.specs.declared.Whole.{Whole}
-use Rattle.format.specs.declared.Real.{Real}
 use Rattle.format.specs.declared.Settings.{Settings}
 use Rattle.format.specs.Content.{Content}
 use Rattle.format.specs.Refusal.{refusal_of}
@@ -20,10 +19,9 @@ use Rattle.format.specs.RefusalLaws.{neither}
 use Rattle.format.specs.Range.{Doubles}
 use Rattle.format.specs.Theorems.{bytes-parse}
 use Rattle.sheet.specs.declared.Header.{Header}
-use Rattle.sheet.specs.declared.Checked.{Checked}
-use Rattle.sheet.specs.Answer.{checked_of, header_of}
+use Rattle.sheet.specs.Answer.{Accepted, checked_of, header_of}
 use Rattle.sheet.specs.Write.{write_refusal}
-use Rattle.heads.specs.Heads.{settings_fit, whole_by, real_by, settings_from, whole_presence, real_presence, whole_put, real_put, wholes_settings, reals_settings, head_numbers, check_fault, head_checked, wholes_checked, reals_checked, Checks, content_from, WritesFrom, HasHead}
+use Rattle.heads.specs.Heads.{settings_fit, given_by, settings_from, presence, number_put, wholes_settings, reals_settings, head_numbers, check_fault, head_checked, wholes_checked, reals_checked, Checks, content_from, WritesFrom, HasHead}
 
 -- ---- lists that have the places
 
@@ -60,68 +58,40 @@ four P f (x0 ∷ x1 ∷ x2 ∷ x3 ∷ rest) h = f x0 x1 x2 x3 rest
 -- ---- one setting
 
 -- its number, or what stood at its place
-abbrev whole_or : Whole → ℕ → ℕ
-whole_or Whole.Absent n = n
-whole_or (Whole.Given v) n = v
+abbrev number_or : {A : Type 0} → Option A → A → A
+number_or None v = v
+number_or (Some w) v = w
 
-abbrev real_or : Real → Float → Float
-real_or Real.Absent x = x
-real_or (Real.Given y) x = y
+given_back : {A : Type 0} (o : Option A) (v : A) → given_by (presence o) (number_or o v) ≡ o
+given_back None v = refl
+given_back (Some w) v = refl
 
-whole_back : (w : Whole) (n : ℕ) → whole_by (whole_presence w) (whole_or w n) ≡ w
-whole_back Whole.Absent n = refl
-whole_back (Whole.Given v) n = refl
-
-real_back : (r : Real) (x : Float) → real_by (real_presence r) (real_or r x) ≡ r
-real_back Real.Absent x = refl
-real_back (Real.Given y) x = refl
+put_is : {A : Type 0} (o : Option A) (i : ℕ) (l : List A) (d : A) → number_put o i l ≡ set l i (number_or o (get_or l i d))
+put_is None i l d = sym (set-get_or l i d)
+put_is (Some v) i l d = refl
 
 -- ---- settings
 
-limit_put : (w : Whole) (n0 n1 : ℕ) (l : List ℕ) → whole_put w 1 (n0 ∷ n1 ∷ l) ≡ n0 ∷ whole_or w n1 ∷ l
-limit_put Whole.Absent n0 n1 l = refl
-limit_put (Whole.Given v) n0 n1 l = refl
-
-room_put : (w : Whole) (n0 n1 n2 n3 n4 n5 n6 n7 : ℕ) (l : List ℕ) → whole_put w 7 (n0 ∷ n1 ∷ n2 ∷ n3 ∷ n4 ∷ n5 ∷ n6 ∷ n7 ∷ l) ≡ n0 ∷ n1 ∷ n2 ∷ n3 ∷ n4 ∷ n5 ∷ n6 ∷ whole_or w n7 ∷ l
-room_put Whole.Absent n0 n1 n2 n3 n4 n5 n6 n7 l = refl
-room_put (Whole.Given v) n0 n1 n2 n3 n4 n5 n6 n7 l = refl
-
-first_put : (r : Real) (x0 : Float) (l : List Float) → real_put r 0 (x0 ∷ l) ≡ real_or r x0 ∷ l
-first_put Real.Absent x0 l = refl
-first_put (Real.Given y) x0 l = refl
-
-second_put : (r : Real) (x0 x1 : Float) (l : List Float) → real_put r 1 (x0 ∷ x1 ∷ l) ≡ x0 ∷ real_or r x1 ∷ l
-second_put Real.Absent x0 x1 l = refl
-second_put (Real.Given y) x0 x1 l = refl
-
-third_put : (r : Real) (x0 x1 x2 : Float) (l : List Float) → real_put r 2 (x0 ∷ x1 ∷ x2 ∷ l) ≡ x0 ∷ x1 ∷ real_or r x2 ∷ l
-third_put Real.Absent x0 x1 x2 l = refl
-third_put (Real.Given y) x0 x1 x2 l = refl
-
-fourth_put : (r : Real) (x0 x1 x2 x3 : Float) (l : List Float) → real_put r 3 (x0 ∷ x1 ∷ x2 ∷ x3 ∷ l) ≡ x0 ∷ x1 ∷ x2 ∷ real_or r x3 ∷ l
-fourth_put Real.Absent x0 x1 x2 x3 l = refl
-fourth_put (Real.Given y) x0 x1 x2 x3 l = refl
-
 wholes_are : (s : Settings) (n0 n1 n2 n3 n4 n5 n6 n7 : ℕ) (l : List ℕ)
     → wholes_settings s (n0 ∷ n1 ∷ n2 ∷ n3 ∷ n4 ∷ n5 ∷ n6 ∷ n7 ∷ l)
-    ≡ whole_presence s.limit ∷ whole_or s.limit n1 ∷ real_presence s.tolerance ∷ real_presence s.step ∷ real_presence s.x ∷ real_presence s.y ∷ whole_presence s.room ∷ whole_or s.room n7 ∷ l
+    ≡ presence s.limit ∷ number_or s.limit n1 ∷ presence s.tolerance ∷ presence s.step ∷ presence s.x ∷ presence s.y ∷ presence s.room ∷ number_or s.room n7 ∷ l
 unfolding wholes_settings
 wholes_are s n0 n1 n2 n3 n4 n5 n6 n7 l =
-    rw (limit_put s.limit (whole_presence s.limit) n1 (n2 ∷ n3 ∷ n4 ∷ n5 ∷ n6 ∷ n7 ∷ l))
-    (room_put s.room (whole_presence s.limit) (whole_or s.limit n1) (real_presence s.tolerance) (real_presence s.step) (real_presence s.x) (real_presence s.y) (whole_presence s.room) n7 l)
+    rw (put_is s.limit 1 (presence s.limit ∷ n1 ∷ n2 ∷ n3 ∷ n4 ∷ n5 ∷ n6 ∷ n7 ∷ l) 0)
+    (put_is s.room 7 (presence s.limit ∷ number_or s.limit n1 ∷ presence s.tolerance ∷ presence s.step ∷ presence s.x ∷ presence s.y ∷ presence s.room ∷ n7 ∷ l) 0)
 
 reals_are : (s : Settings) (x0 x1 x2 x3 : Float) (l : List Float)
-    → reals_settings s (x0 ∷ x1 ∷ x2 ∷ x3 ∷ l) ≡ real_or s.tolerance x0 ∷ real_or s.step x1 ∷ real_or s.x x2 ∷ real_or s.y x3 ∷ l
+    → reals_settings s (x0 ∷ x1 ∷ x2 ∷ x3 ∷ l) ≡ number_or s.tolerance x0 ∷ number_or s.step x1 ∷ number_or s.x x2 ∷ number_or s.y x3 ∷ l
 unfolding reals_settings
 reals_are s x0 x1 x2 x3 l =
-    rw (first_put s.tolerance x0 (x1 ∷ x2 ∷ x3 ∷ l), second_put s.step (real_or s.tolerance x0) x1 (x2 ∷ x3 ∷ l), third_put s.x (real_or s.tolerance x0) (real_or s.step x1) x2 (x3 ∷ l))
-    (fourth_put s.y (real_or s.tolerance x0) (real_or s.step x1) (real_or s.x x2) x3 l)
+    rw (put_is s.tolerance 0 (x0 ∷ x1 ∷ x2 ∷ x3 ∷ l) x0, put_is s.step 1 (number_or s.tolerance x0 ∷ x1 ∷ x2 ∷ x3 ∷ l) x1, put_is s.x 2 (number_or s.tolerance x0 ∷ number_or s.step x1 ∷ x2 ∷ x3 ∷ l) x2)
+    (put_is s.y 3 (number_or s.tolerance x0 ∷ number_or s.step x1 ∷ number_or s.x x2 ∷ x3 ∷ l) x3)
 
 front : (s : Settings) (n0 n1 n2 n3 n4 n5 n6 n7 : ℕ) (ns : List ℕ) (x0 x1 x2 x3 : Float) (xs : List Float)
     → settings_from (wholes_settings s (n0 ∷ n1 ∷ n2 ∷ n3 ∷ n4 ∷ n5 ∷ n6 ∷ n7 ∷ ns)) (reals_settings s (x0 ∷ x1 ∷ x2 ∷ x3 ∷ xs)) ≡ s
 unfolding settings_from
 front s n0 n1 n2 n3 n4 n5 n6 n7 ns x0 x1 x2 x3 xs =
-    rw (wholes_are s n0 n1 n2 n3 n4 n5 n6 n7 ns, reals_are s x0 x1 x2 x3 xs, whole_back s.limit n1, real_back s.tolerance x0, real_back s.step x1, real_back s.x x2, real_back s.y x3, whole_back s.room n7)
+    rw (wholes_are s n0 n1 n2 n3 n4 n5 n6 n7 ns, reals_are s x0 x1 x2 x3 xs, given_back s.limit n1, given_back s.tolerance x0, given_back s.step x1, given_back s.x x2, given_back s.y x3, given_back s.room n7)
 
 -- what is put is read as it was
 pub settings_back : (s : Settings) (ns : List ℕ) (xs : List Float) → settings_fit (length ns) (length xs) ≡ true → settings_from (wholes_settings s ns) (reals_settings s xs) ≡ s
@@ -148,7 +118,7 @@ fitted false k e = absurd (omega (arith, e))
 pub checked_says : (sheet hs ns : List ℕ) (xs : List Float) (hs' ns' : List ℕ) (xs' : List Float) (c : Content) → parse sheet ≡ accepted c → Checks sheet hs ns xs 0 hs' ns' xs'
     → (settings_from ns' xs' ≡ c.settings) × HasHead (header_of c) hs'
 checked_says sheet hs ns xs hs' ns' xs' c e k =
-    let z : 0 ≡ check_fault (Checked.Accepted (header_of c)) hs ns xs = k.said ∙ ap (λ (p : Parsed). check_fault (checked_of p) hs ns xs) e in
+    let z : 0 ≡ check_fault (Accepted (header_of c)) hs ns xs = k.said ∙ ap (λ (p : Parsed). check_fault (checked_of p) hs ns xs) e in
     let fit : (leb 6 (length hs) && settings_fit (length ns) (length xs)) ≡ true = fitted (leb 6 (length hs) && settings_fit (length ns) (length xs)) 0 (sym z) in
     let places = both (leb 6 (length hs)) (settings_fit (length ns) (length xs)) fit in
     let p : hs' ≡ head_numbers (header_of c) hs = k.head ∙ ap (λ (p : Parsed). head_checked (checked_of p) hs ns xs) e ∙ rw fit in

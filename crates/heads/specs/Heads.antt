@@ -1,17 +1,14 @@
 -- An accepted sheet's head and settings as lists of numbers, which C's callers hold, and a sheet written from them. Definitions only. Assumes nothing.
 -- Settings, 8 whole numbers: 0 whether there is a limit, 1 limit, 2 to 5 whether there are a tolerance, a step, a start's x and y, 6 whether there is a room, 7 room; 4 reals: 0 tolerance, 1 step, 2 and 3 the start.
 -- Head, 6 whole numbers: 0 n, 1 T, 2 to 5 where the items of sections 1 to 4 start.
-use Rattle.std.specs.Prelude.{ℕ, zero, suc, Bool, ◌&&◌, ◌≡◌, List, get_or, set, length, Float, leb}
+use Rattle.std.specs.Prelude.{ℕ, zero, suc, Bool, ◌&&◌, ◌≡◌, List, get_or, set, length, Float, leb, Option, Some, None}
 use Rattle.binary64.specs.Constants.{plus_zero}
 use Rattle.binary64.specs.Number.{pick}
-use Rattle.format.specs.declared.Whole.{Whole}
-use Rattle.format.specs.declared.Real.{Real}
 use Rattle.format.specs.declared.Settings.{Settings}
 use Rattle.format.specs.Content.{Content}
 use Rattle.format.specs.Sheet.{parse, bytes_of}
 use Rattle.sheet.specs.declared.Header.{Header}
-use Rattle.sheet.specs.declared.Checked.{Checked}
-use Rattle.sheet.specs.Answer.{checked_of}
+use Rattle.sheet.specs.Answer.{Checked, Accepted, Refused, checked_of}
 use Rattle.sheet.specs.Write.{content_by, write_refusal, buffer_by}
 
 -- whether lists of so many places hold settings
@@ -21,53 +18,39 @@ settings_fit wholes reals = leb 8 wholes && leb 4 reals
 -- ---- settings from their numbers; what has no place reads as 0
 
 -- a presence and a number
-abbrev pub whole_by : ℕ → ℕ → Whole
-whole_by zero v = Whole.Absent
-whole_by (suc k) v = Whole.Given v
-
--- a presence and a number
-abbrev pub real_by : ℕ → Float → Real
-real_by zero x = Real.Absent
-real_by (suc k) x = Real.Given x
+abbrev pub given_by : {A : Type 0} → ℕ → A → Option A
+given_by zero v = None
+given_by (suc k) v = Some v
 
 unfoldable pub settings_from : List ℕ → List Float → Settings
 settings_from ns xs = record {
-  limit = whole_by (get_or ns 0 0) (get_or ns 1 0);
-  tolerance = real_by (get_or ns 2 0) (get_or xs 0 plus_zero);
-  step = real_by (get_or ns 3 0) (get_or xs 1 plus_zero);
-  x = real_by (get_or ns 4 0) (get_or xs 2 plus_zero);
-  y = real_by (get_or ns 5 0) (get_or xs 3 plus_zero);
-  room = whole_by (get_or ns 6 0) (get_or ns 7 0);
+  limit = given_by (get_or ns 0 0) (get_or ns 1 0);
+  tolerance = given_by (get_or ns 2 0) (get_or xs 0 plus_zero);
+  step = given_by (get_or ns 3 0) (get_or xs 1 plus_zero);
+  x = given_by (get_or ns 4 0) (get_or xs 2 plus_zero);
+  y = given_by (get_or ns 5 0) (get_or xs 3 plus_zero);
+  room = given_by (get_or ns 6 0) (get_or ns 7 0);
 }
 
 -- ---- the numbers of settings, put at their places; what has no place is left out
 
-abbrev pub whole_presence : Whole → ℕ
-whole_presence Whole.Absent = 0
-whole_presence (Whole.Given v) = 1
-
-abbrev pub real_presence : Real → ℕ
-real_presence Real.Absent = 0
-real_presence (Real.Given x) = 1
+abbrev pub presence : {A : Type 0} → Option A → ℕ
+presence None = 0
+presence (Some v) = 1
 
 -- an absent one's place stays as it was
-abbrev pub whole_put : Whole → ℕ → List ℕ → List ℕ
-whole_put Whole.Absent i ns = ns
-whole_put (Whole.Given v) i ns = set ns i v
-
--- an absent one's place stays as it was
-abbrev pub real_put : Real → ℕ → List Float → List Float
-real_put Real.Absent i xs = xs
-real_put (Real.Given x) i xs = set xs i x
+abbrev pub number_put : {A : Type 0} → Option A → ℕ → List A → List A
+number_put None i l = l
+number_put (Some v) i l = set l i v
 
 unfoldable pub wholes_settings : Settings → List ℕ → List ℕ
 wholes_settings s ns =
-    let limit : List ℕ = whole_put s.limit 1 (set ns 0 (whole_presence s.limit)) in
-    let reals : List ℕ = set (set (set (set limit 2 (real_presence s.tolerance)) 3 (real_presence s.step)) 4 (real_presence s.x)) 5 (real_presence s.y) in
-    whole_put s.room 7 (set reals 6 (whole_presence s.room))
+    let limit : List ℕ = number_put s.limit 1 (set ns 0 (presence s.limit)) in
+    let reals : List ℕ = set (set (set (set limit 2 (presence s.tolerance)) 3 (presence s.step)) 4 (presence s.x)) 5 (presence s.y) in
+    number_put s.room 7 (set reals 6 (presence s.room))
 
 unfoldable pub reals_settings : Settings → List Float → List Float
-reals_settings s xs = real_put s.y 3 (real_put s.x 2 (real_put s.step 1 (real_put s.tolerance 0 xs)))
+reals_settings s xs = number_put s.y 3 (number_put s.x 2 (number_put s.step 1 (number_put s.tolerance 0 xs)))
 
 -- ---- a head
 
@@ -82,20 +65,20 @@ left_by zero new old = new
 left_by (suc k) new old = old
 
 abbrev pub check_fault : Checked → List ℕ → List ℕ → List Float → ℕ
-check_fault (Checked.Refused k) hs ns xs = k
-check_fault (Checked.Accepted h) hs ns xs = pick (leb 6 (length hs) && settings_fit (length ns) (length xs)) 0 8
+check_fault (Refused k) hs ns xs = k
+check_fault (Accepted h) hs ns xs = pick (leb 6 (length hs) && settings_fit (length ns) (length xs)) 0 8
 
 abbrev pub head_checked : Checked → List ℕ → List ℕ → List Float → List ℕ
-head_checked (Checked.Refused k) hs ns xs = hs
-head_checked (Checked.Accepted h) hs ns xs = left_by (check_fault (Checked.Accepted h) hs ns xs) (head_numbers h hs) hs
+head_checked (Refused k) hs ns xs = hs
+head_checked (Accepted h) hs ns xs = left_by (check_fault (Accepted h) hs ns xs) (head_numbers h hs) hs
 
 abbrev pub wholes_checked : Checked → List ℕ → List ℕ → List Float → List ℕ
-wholes_checked (Checked.Refused k) hs ns xs = ns
-wholes_checked (Checked.Accepted h) hs ns xs = left_by (check_fault (Checked.Accepted h) hs ns xs) (wholes_settings h.settings ns) ns
+wholes_checked (Refused k) hs ns xs = ns
+wholes_checked (Accepted h) hs ns xs = left_by (check_fault (Accepted h) hs ns xs) (wholes_settings h.settings ns) ns
 
 abbrev pub reals_checked : Checked → List ℕ → List ℕ → List Float → List Float
-reals_checked (Checked.Refused k) hs ns xs = xs
-reals_checked (Checked.Accepted h) hs ns xs = left_by (check_fault (Checked.Accepted h) hs ns xs) (reals_settings h.settings xs) xs
+reals_checked (Refused k) hs ns xs = xs
+reals_checked (Accepted h) hs ns xs = left_by (check_fault (Accepted h) hs ns xs) (reals_settings h.settings xs) xs
 
 -- a sheet and the lists, what is answered, and the lists after it
 pub record Checks (sheet hs ns : List ℕ) (xs : List Float) (r : ℕ) (hs' ns' : List ℕ) (xs' : List Float) : Type 0 where

@@ -3,13 +3,14 @@
 
 pub mod items;
 
-ghost use Rattle.std.specs.Prelude.{◌≡◌, get_or, set};
-ghost use Rattle.binary64.specs.Constants.{plus_zero};
+ghost use Rattle.std.specs.Prelude.{◌≡◌, set};
+ghost use Rattle.refusal.specs.Refusal.{fault};
 ghost use Rattle.heads.specs.Heads as Heads;
 
-use format::{Real, Settings, Whole};
-use records::lists::{put, put_float, real, whole};
-use sheet::{Checked, Header, Written};
+use format::{Content, Settings};
+use records::lists::{Lists, put};
+use refusal::Refusal;
+use sheet::Header;
 
 // Whether lists of these lengths hold settings.
 fn settings_fit(wholes: usize, reals: usize) -> bool
@@ -18,37 +19,27 @@ fn settings_fit(wholes: usize, reals: usize) -> bool
     (8 <= wholes) & (4 <= reals)
 }
 
-// A setting from its presence at `at` and its number at `number`.
-
-fn whole_from(wholes: &[u64], at: usize, number: usize) -> Whole
-    ensures { result ≡ Heads.whole_by (get_or wholes.now at 0) (get_or wholes.now number 0) }
+// A setting from its presence and its number.
+fn given_from<T: Copy>(presence: u64, number: T) -> Option<T>
+    ensures { result ≡ Heads.given_by presence number }
 {
-    if whole(wholes, at) == 0 {
-        return Whole::Absent;
+    match presence {
+        0 => None,
+        _ => Some(number),
     }
-    let v = whole(wholes, number);
-    Whole::Given(v)
 }
 
-fn real_from(wholes: &[u64], at: usize, reals: &[f64], number: usize) -> Real
-    ensures { result ≡ Heads.real_by (get_or wholes.now at 0) (get_or reals.now number plus_zero) }
-{
-    if whole(wholes, at) == 0 {
-        return Real::Absent;
-    }
-    let x = real(reals, number);
-    Real::Given(x)
-}
-
+#[tactic(auto, unfolding(crate::specs::Heads::settings_from))]
 pub fn settings_from(wholes: &[u64], reals: &[f64]) -> Settings
     ensures { result ≡ Heads.settings_from wholes.now reals.now }
 {
-    let limit = whole_from(wholes, 0, 1);
-    let tolerance = real_from(wholes, 2, reals, 0);
-    let step = real_from(wholes, 3, reals, 1);
-    let x = real_from(wholes, 4, reals, 2);
-    let y = real_from(wholes, 5, reals, 3);
-    let room = whole_from(wholes, 6, 7);
+    let lists = Lists { wholes, reals };
+    let limit = given_from(lists.whole(0), lists.whole(1));
+    let tolerance = given_from(lists.whole(2), lists.real(0));
+    let step = given_from(lists.whole(3), lists.real(1));
+    let x = given_from(lists.whole(4), lists.real(2));
+    let y = given_from(lists.whole(5), lists.real(3));
+    let room = given_from(lists.whole(6), lists.whole(7));
     Settings {
         limit,
         tolerance,
@@ -59,49 +50,44 @@ pub fn settings_from(wholes: &[u64], reals: &[f64]) -> Settings
     }
 }
 
-// A setting's presence goes to `at`, and its number, where it has one, to `number`.
+// A setting's presence goes to one place, and its number, where it has one, to another.
 
-fn put_whole(w: Whole, wholes: &mut [u64], at: usize, number: usize)
-    ensures { wholes.new ≡ Heads.whole_put w number (set wholes.old at (Heads.whole_presence w)) }
+fn put_presence<T: Copy>(given: Option<T>, out: &mut [u64], at: usize)
+    ensures { out.new ≡ set out.old at (Heads.presence given) }
 {
-    match w {
-        Whole::Absent => put(wholes, at, 0),
-        Whole::Given(v) => {
-            put(wholes, at, 1);
-            put(wholes, number, v);
-        }
+    match given {
+        None => put(out, at, 0),
+        Some(_) => put(out, at, 1),
     }
 }
 
-fn put_real(r: Real, wholes: &mut [u64], at: usize, reals: &mut [f64], number: usize)
-    ensures { (wholes.new ≡ set wholes.old at (Heads.real_presence r)) × (reals.new ≡ Heads.real_put r number reals.old) }
+fn put_number<T: Copy>(given: Option<T>, out: &mut [T], at: usize)
+    ensures { out.new ≡ Heads.number_put given at out.old }
 {
-    match r {
-        Real::Absent => put(wholes, at, 0),
-        Real::Given(x) => {
-            put(wholes, at, 1);
-            put_float(reals, number, x);
-        }
+    if let Some(number) = given {
+        put(out, at, number);
     }
 }
 
+#[tactic(auto, unfolding(crate::specs::Heads::wholes_settings, crate::specs::Heads::reals_settings))]
 pub fn put_settings(s: Settings, wholes: &mut [u64], reals: &mut [f64])
     ensures { (wholes.new ≡ Heads.wholes_settings s wholes.old) × (reals.new ≡ Heads.reals_settings s reals.old) }
 {
-    let limit = s.limit;
-    let tolerance = s.tolerance;
-    let step = s.step;
-    let x = s.x;
-    let y = s.y;
-    let room = s.room;
-    put_whole(limit, wholes, 0, 1);
-    put_real(tolerance, wholes, 2, reals, 0);
-    put_real(step, wholes, 3, reals, 1);
-    put_real(x, wholes, 4, reals, 2);
-    put_real(y, wholes, 5, reals, 3);
-    put_whole(room, wholes, 6, 7);
+    put_presence(s.limit, wholes, 0);
+    put_number(s.limit, wholes, 1);
+    put_presence(s.tolerance, wholes, 2);
+    put_number(s.tolerance, reals, 0);
+    put_presence(s.step, wholes, 3);
+    put_number(s.step, reals, 1);
+    put_presence(s.x, wholes, 4);
+    put_number(s.x, reals, 2);
+    put_presence(s.y, wholes, 5);
+    put_number(s.y, reals, 3);
+    put_presence(s.room, wholes, 6);
+    put_number(s.room, wholes, 7);
 }
 
+#[tactic(auto, unfolding(crate::specs::Heads::head_numbers))]
 pub fn put_head(h: Header, head: &mut [u64])
     ensures { head.new ≡ Heads.head_numbers h head.old }
 {
@@ -113,27 +99,26 @@ pub fn put_head(h: Header, head: &mut [u64])
     put(head, 5, h.tags as u64);
 }
 
-// 0 with the head and the settings of an accepted sheet; or the refusal's number with nothing put, 8 where a list has too few places.
-pub fn check(sheet: &[u8], head: &mut [u64], wholes: &mut [u64], reals: &mut [f64]) -> u32
-    ensures { Heads.Checks sheet.now head.old wholes.old reals.old result head.new wholes.new reals.new }
+// Puts the head and the settings of an accepted sheet; or refuses with nothing put, with `Space` where a list has too few places.
+pub fn check(
+    sheet: &[u8],
+    head: &mut [u64],
+    wholes: &mut [u64],
+    reals: &mut [f64],
+) -> Result<(), Refusal>
+    ensures { Heads.Checks sheet.now head.old wholes.old reals.old (fault result) head.new wholes.new reals.new }
 {
-    let checked = sheet::check_sheet(sheet);
+    let header = sheet::check_sheet(sheet)?;
     let fits = (6 <= head.len()) & settings_fit(wholes.len(), reals.len());
-    match checked {
-        Checked::Refused(k) => k,
-        Checked::Accepted(h) => {
-            if !fits {
-                return 8;
-            }
-            let settings = h.settings;
-            put_head(h, head);
-            put_settings(settings, wholes, reals);
-            0
-        }
+    if !fits {
+        return Err(Refusal::Space);
     }
+    put_head(header, head);
+    put_settings(header.settings, wholes, reals);
+    Ok(())
 }
 
-// 0 with the sheet at the front of `out` and its length in `written`; or the refusal's number with nothing written.
+// Puts the sheet at the front of `out` and its length in `written`; or refuses with nothing written.
 pub fn write(
     vertices: &[f64],
     triangles: &[u32],
@@ -143,20 +128,22 @@ pub fn write(
     reals: &[f64],
     out: &mut [u8],
     written: &mut [u64],
-) -> u32
-    ensures { Heads.WritesFrom vertices.now triangles.now neighbours.now tags.now wholes.now reals.now out.old written.old result out.new written.new }
+) -> Result<(), Refusal>
+    ensures { Heads.WritesFrom vertices.now triangles.now neighbours.now tags.now wholes.now reals.now out.old written.old (fault result) out.new written.new }
 {
     let fits = settings_fit(wholes.len(), reals.len()) & (1 <= written.len());
     if !fits {
-        return 8;
+        return Err(Refusal::Space);
     }
     let settings = settings_from(wholes, reals);
-    let answer = sheet::write_sheet(vertices, triangles, neighbours, tags, settings, out);
-    match answer {
-        Written::Refused(k) => k,
-        Written::Bytes(n) => {
-            put(written, 0, n as u64);
-            0
-        }
-    }
+    let content = Content {
+        vertices,
+        triangles,
+        neighbours,
+        tags,
+        settings,
+    };
+    let size = sheet::write_sheet(&content, out)?;
+    put(written, 0, size as u64);
+    Ok(())
 }

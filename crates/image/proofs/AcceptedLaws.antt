@@ -1,5 +1,5 @@
 -- Whose record and buffers no call is refused on for what they hold: what is known of them (`Accepted`), by what the tests of a call say. Assumes nothing.
-use Rattle.std.specs.Prelude.{ℕ, zero, suc, ◌+◌, ◌*◌, ◌≤◌, ◌<◌, ◌≡◌, refl, ◌⊎◌, Bool, true, false, ◌&&◌, ◌||◌, not, List, [], ◌∷◌, leb, ltb, eqb, get_or}
+use Rattle.std.specs.Prelude.{ℕ, zero, suc, ◌+◌, ◌*◌, ◌≤◌, ◌<◌, ◌≡◌, refl, ◌⊎◌, Bool, true, false, ◌&&◌, ◌||◌, not, List, [], ◌∷◌, leb, ltb, eqb, get_or, Option, Some, None}
 use Rattle.std.proofs.Common.{inl, inr, arith}
 use Rattle.std.proofs.Math.ListN.{length}
 use borrow.Author.Tests.{ltb-true, leb-true, eqb-true, eq-eqb}
@@ -14,7 +14,6 @@ use Rattle.format.specs.Refusal.{◌then◌}
 use Rattle.model.specs.Space.{factor, farthest, word_space}
 use Rattle.work.specs.declared.Plan.{Plan}
 use Rattle.work.specs.declared.Stand.{Stand}
-use Rattle.work.specs.declared.Mark.{Mark}
 use Rattle.work.specs.declared.Run.{Run}
 use Rattle.work.specs.Layout.{at_neighbours, at_starts, at_columns, matrix_at, mesh_at}
 use Rattle.work.specs.Ready.{Ready, Standing, MarkKeeping}
@@ -22,6 +21,7 @@ use Rattle.image.specs.Calls.{Buffers, unless10, counts_fault, space_fault, tria
 use Rattle.image.specs.CallLaws.{and_true, Counted, Enough, asked, lacking, lacking_none}
 use Rattle.image.specs.Shown.{lengths_of}
 use Rattle.image.specs.Accepted.{PlaceIn, MarkIn, EndsIn, TriangleIn, Accepted}
+use Rattle.work.specs.declared.Kept.{Kept}
 
 -- ---- tests
 
@@ -137,10 +137,10 @@ module _ (p : Plan) (s : Stand) where
         },
       )
 
-pub keeping : (p : Plan) (m : Mark) → mark_sound p m ≡ true → MarkIn p m × MarkKeeping p m
+pub keeping : (p : Plan) (m : Option Kept) → mark_sound p m ≡ true → MarkIn p m × MarkKeeping p m
 unfolding mark_sound
-keeping p Mark.Nothing h = (tt, tt)
-keeping p (Mark.At k) h =
+keeping p None h = (tt, tt)
+keeping p (Some k) h =
     let a = and_true (leb k.place (farthest p.t p.limit)) (leb 1 k.norms && leb k.norms (p.limit + 1)) h in
     let b = and_true (leb 1 k.norms) (leb k.norms (p.limit + 1)) a.1 in
     let least = leb-true 1 k.norms b.0 in

@@ -1,7 +1,8 @@
 -- The ways in which a call ends, for any record and buffers: refused for what they hold, refused for the call, or done; and what an advance gains, counted before it is made. Assumes nothing.
-use Rattle.std.specs.Prelude.{ℕ, ◌+◌, ◌-◌, ◌≤◌, ◌<◌, min, ◌≡◌, Bool, true, false, List, [], ltb, Float}
+use Rattle.std.specs.Prelude.{ℕ, ◌+◌, ◌-◌, ◌≤◌, ◌<◌, min, ◌≡◌, Bool, true, false, List, [], ltb, Float, Result, IsErrAnd, Some, None}
 use Rattle.std.proofs.Math.Path.{refl, sym, ap}
 use Rattle.std.proofs.Common.{◌∙◌, arith}
+use Rattle.std.proofs.lemmas.Result.{err_from_is_err_and}
 use borrow.Author.Tests.{le-leb, le-ltb, lt-ltb, ltb-true, ltb-false, ne_eqb}
 use Rattle.binary64.specs.Number.{pick}
 use Rattle.format.specs.Content.{max_triangles, max_limit}
@@ -10,7 +11,6 @@ use Rattle.model.specs.Machine.{Call, advance, back, mark, return, most}
 use Rattle.work.specs.declared.Plan.{Plan}
 use Rattle.work.specs.declared.Stand.{Stand}
 use Rattle.work.specs.declared.Kept.{Kept}
-use Rattle.work.specs.declared.Mark.{Mark}
 use Rattle.work.specs.declared.Run.{Run}
 use Rattle.work.specs.Memory.{work, origin_of, goes, seek, kept_floats, kept_of}
 use Rattle.work.specs.Dry.{dry_at, gain, Counts}
@@ -18,36 +18,43 @@ use Rattle.work.specs.DryLaws.{dry_stand, dry_forth, gain-goes}
 use Rattle.work.specs.Ready.{Comes}
 use Rattle.work.specs.Seek.{Seeks}
 use Rattle.work.specs.StandingLaws.{goes_place}
-use Rattle.image.specs.declared.Answer.{Answer}
+use Rattle.refusal.specs.declared.Refusal.{Refusal}
+use Rattle.refusal.specs.declared.Refusal.TheVariants.{NoMark}
+use Rattle.refusal.specs.Refusal.{number_of}
 use Rattle.image.specs.Accepted.{Accepted}
 use Rattle.image.specs.Exits.{moved_run, over_fault}
 use Rattle.image.proofs.AcceptedLaws.{accepted, then_first, then_second}
-use Rattle.image.specs.Calls.{Buffers, buffers, answered, held_fault, work_of, sought_at, mark_place, gone, late_fault, fault, next_run, run_after, buffers_after, Does}
+use Rattle.image.proofs.RefusalLaws.{refuses_some}
+use Rattle.image.specs.Calls.{Buffers, buffers, answered, answer_of, held_fault, work_of, sought_at, mark_place, gone, late_fault, fault, next_run, run_after, buffers_after, Does}
 
 -- ---- the exits of a call
 
 module _ (c : Call) (r : Run) (b : Buffers) where
-  unchanged : (e : ℕ) (a : Answer) → a ≡ answered e r → fault c r b ≡ e → (e ≡ 0 → ⊥) → Does c r b a b
+  unchanged : (e : Refusal) → fault c r b ≡ number_of e → Does c r b (answered (number_of e) r) b
   unfolding run_after buffers_after
-  unchanged e a q f n = rw q (record { said = sym f; left = rw (f, ne_eqb e 0 n); held = rw (f, ne_eqb e 0 n) })
+  unchanged e f =
+      let n : _ = ne_eqb (number_of e) 0 (refuses_some e) in
+      record { said = sym f; left = rw (f, n); held = rw (f, n) }
 
   -- refused for what the record and the buffers hold
-  pub does_early : (e : ℕ) (a : Answer) → a ≡ answered e r → e ≡ held_fault r b → (e ≡ 0 → ⊥) → Does c r b a b
+  pub does_early : (e : Refusal) (left : Result Run Refusal) → IsErrAnd left (λ y. y ≡ e) → number_of e ≡ held_fault r b → Does c r b (answer_of r left) b
   unfolding fault
-  does_early e a q h n = unchanged e a q (then_first (held_fault r b) (late_fault c r b) (λ (z : held_fault r b ≡ 0). n (h ∙ z)) ∙ sym h) n
+  does_early e left w h =
+      let p = err_from_is_err_and left w in
+      rw (p.1, p.2) (unchanged e (then_first (held_fault r b) (late_fault c r b) (λ (z : held_fault r b ≡ 0). refuses_some e (h ∙ z)) ∙ sym h))
 
   -- refused for the call
-  pub does_late : (e : ℕ) (a : Answer) → a ≡ answered e r → held_fault r b ≡ 0 → e ≡ late_fault c r b → (e ≡ 0 → ⊥) → Does c r b a b
+  pub does_late : (e : Refusal) → held_fault r b ≡ 0 → number_of e ≡ late_fault c r b → Does c r b (answered (number_of e) r) b
   unfolding fault
-  does_late e a q h l n = unchanged e a q (then_second (held_fault r b) (late_fault c r b) h ∙ sym l) n
+  does_late e h l = unchanged e (then_second (held_fault r b) (late_fault c r b) h ∙ sym l)
 
   -- done
-  pub does_next : (r' : Run) (a : Answer) (floats path : List Float) → a ≡ answered 0 r' → held_fault r b ≡ 0 → late_fault c r b ≡ 0 → r' ≡ next_run c r b
-      → floats ≡ (gone c r b).floats → path ≡ (gone c r b).path → Does c r b a (buffers floats b.words path)
+  pub does_next : (r' : Run) (floats path : List Float) → held_fault r b ≡ 0 → late_fault c r b ≡ 0 → r' ≡ next_run c r b
+      → floats ≡ (gone c r b).floats → path ≡ (gone c r b).path → Does c r b (answered 0 r') (buffers floats b.words path)
   unfolding fault run_after buffers_after
-  does_next r' a floats path q h l e f p =
+  does_next r' floats path h l e f p =
       let z : fault c r b ≡ 0 = then_second (held_fault r b) (late_fault c r b) h ∙ l in
-      rw q (record { said = sym z; left = rw (h, l) e; held = rw (h, l, f, p) })
+      record { said = sym z; left = rw (h, l) e; held = rw (h, l, f, p) }
 
 -- ---- what an advance gains
 
@@ -99,65 +106,70 @@ module _ (r : Run) (b : Buffers) (target : ℕ) (h : r.stand.place ≤ target) w
 -- ---- each call's exits
 
 -- what a record and buffers that refuse nothing have
-pub cleared : (r : Run) (b : Buffers) {e : ℕ} → e ≡ held_fault r b → e ≡ 0 → held_fault r b ≡ 0
-cleared r b h z = sym h ∙ z
+pub admitted : (r : Run) (b : Buffers) → 0 ≡ held_fault r b → Accepted r b
+admitted r b h = accepted r b (sym h)
 
-pub admitted : (r : Run) (b : Buffers) {e : ℕ} → e ≡ held_fault r b → e ≡ 0 → Accepted r b
-admitted r b h z = accepted r b (cleared r b h z)
+module _ (r : Run) (b : Buffers) (cleared : 0 ≡ held_fault r b) where
+  z : held_fault r b ≡ 0
+  z = sym cleared
 
-module _ (r : Run) (b : Buffers) (z : held_fault r b ≡ 0) where
   -- where an advance seeks
   abbrev pub ahead_of : ℕ → ℕ
   ahead_of k = min (r.stand.place + k) (farthest r.plan.t r.plan.limit)
 
-  module _ (k target : ℕ) (e : target ≡ ahead_of k) (late : ℕ)
-      (l : late ≡ over_fault r.passes (gain r.plan b.words (target - r.stand.place) b.floats r.stand)) where
+  module _ (k target : ℕ) (e : target ≡ ahead_of k) where
+    -- what refuses what is gained until there
+    abbrev pub gained_fault : ℕ
+    gained_fault = over_fault r.passes (gain r.plan b.words (target - r.stand.place) b.floats r.stand)
+
     ahead : r.stand.place ≤ target
     ahead = let i : Accepted r b = accepted r b z in omega (arith, i.place_in)
 
-    late_is : late ≡ late_fault (advance k) r b
+    late_is : gained_fault ≡ late_fault (advance k) r b
     unfolding gone
-    late_is = l ∙ ap (over_fault r.passes) (gain_sought r b target ahead) ∙ ap (λ (j : ℕ). over_fault r.passes ((sought_at r b j).stand.place - r.stand.place)) e
+    late_is = ap (over_fault r.passes) (gain_sought r b target ahead) ∙ ap (λ (j : ℕ). over_fault r.passes ((sought_at r b j).stand.place - r.stand.place)) e
 
-    pub advance_late : (a : Answer) → a ≡ answered late r → (late ≡ 0 → ⊥) → Does (advance k) r b a b
-    advance_late a q n = does_late (advance k) r b late a q z late_is n
+    pub advance_late : (x : Refusal) (left : Result Run Refusal) → IsErrAnd left (λ y. y ≡ x) → number_of x ≡ gained_fault → Does (advance k) r b (answer_of r left) b
+    advance_late x left w h =
+        let p = err_from_is_err_and left w in
+        rw (p.1, p.2) (does_late (advance k) r b x z (h ∙ late_is))
 
     module _ (s : Stand) (floats path : List Float) (w : Comes (sought_at r b target) s floats path) where
       -- the place rises, and the count fits
       pub advance_rises : r.stand.place ≤ s.place
       advance_rises = rw w.stand (sought_least r b target ahead)
 
-      pub advance_fits : late ≡ 0 → r.passes + (s.place - r.stand.place) ≤ most
-      advance_fits y = rw (w.stand, ← gain_sought r b target ahead) (not_over r.passes _ (sym l ∙ y))
+      pub advance_fits : 0 ≡ gained_fault → r.passes + (s.place - r.stand.place) ≤ most
+      advance_fits y = rw (w.stand, ← gain_sought r b target ahead) (not_over r.passes _ (sym y))
 
-      pub advance_done : (r' : Run) (a : Answer) → r' ≡ moved_run r s (r.passes + (s.place - r.stand.place)) → a ≡ answered 0 r' → late ≡ 0
-          → Does (advance k) r b a (buffers floats b.words path)
+      pub advance_done : (r' : Run) → r' ≡ moved_run r s (r.passes + (s.place - r.stand.place)) → 0 ≡ gained_fault
+          → Does (advance k) r b (answered 0 r') (buffers floats b.words path)
       unfolding next_run gone
-      advance_done r' a m q y =
-          does_next (advance k) r b r' a floats path q z (sym late_is ∙ y) (m ∙ rw (w.stand, e)) (w.floats ∙ ap (λ (j : ℕ). (sought_at r b j).floats) e)
+      advance_done r' m y =
+          does_next (advance k) r b r' floats path z (sym (y ∙ late_is)) (m ∙ rw (w.stand, e)) (w.floats ∙ ap (λ (j : ℕ). (sought_at r b j).floats) e)
           (w.path ∙ ap (λ (j : ℕ). (sought_at r b j).path) e)
 
-  module _ (s : Stand) (floats path : List Float) (r' : Run) (a : Answer) (m : r' ≡ moved_run r s r.passes) (q : a ≡ answered 0 r') where
-    pub back_done : (k target : ℕ) → target ≡ r.stand.place - k → Comes (sought_at r b target) s floats path → Does (back k) r b a (buffers floats b.words path)
+  module _ (s : Stand) (floats path : List Float) (r' : Run) (m : r' ≡ moved_run r s r.passes) where
+    pub back_done : (k target : ℕ) → target ≡ r.stand.place - k → Comes (sought_at r b target) s floats path → Does (back k) r b (answered 0 r') (buffers floats b.words path)
     unfolding next_run gone
     back_done k target e w =
-        does_next (back k) r b r' a floats path q z refl (m ∙ rw (w.stand, e)) (w.floats ∙ ap (λ (j : ℕ). (sought_at r b j).floats) e)
+        does_next (back k) r b r' floats path z refl (m ∙ rw (w.stand, e)) (w.floats ∙ ap (λ (j : ℕ). (sought_at r b j).floats) e)
         (w.path ∙ ap (λ (j : ℕ). (sought_at r b j).path) e)
 
-    pub return_done : (k : Kept) → r.mark ≡ Mark.At k → Comes (sought_at r b k.place) s floats path → Does return r b a (buffers floats b.words path)
+    pub return_done : (k : Kept) → r.mark ≡ Some k → Comes (sought_at r b k.place) s floats path → Does return r b (answered 0 r') (buffers floats b.words path)
     unfolding next_run gone
     return_done k e w =
         let t : k.place ≡ mark_place r.mark r.stand.place = rw e in
-        does_next return r b r' a floats path q z (rw e) (m ∙ rw (w.stand, t)) (w.floats ∙ ap (λ (j : ℕ). (sought_at r b j).floats) t)
+        does_next return r b r' floats path z (rw e) (m ∙ rw (w.stand, t)) (w.floats ∙ ap (λ (j : ℕ). (sought_at r b j).floats) t)
         (w.path ∙ ap (λ (j : ℕ). (sought_at r b j).path) t)
 
-  pub return_late : (a : Answer) → r.mark ≡ Mark.Nothing → a ≡ answered 9 r → Does return r b a b
-  return_late a e q = does_late return r b 9 a q z (rw e) (omega arith)
+  pub return_late : r.mark ≡ None → Does return r b (answered 9 r) b
+  return_late e = does_late return r b NoMark z (rw e)
 
-  pub mark_done : (floats : List Float) (a : Answer) → floats ≡ kept_floats r.plan b.floats
-      → a ≡ answered 0 (record { plan = r.plan; stand = r.stand; mark = Mark.At (kept_of r.stand); passes = r.passes }) → Does mark r b a (buffers floats b.words b.path)
+  pub mark_done : (floats : List Float) → floats ≡ kept_floats r.plan b.floats
+      → Does mark r b (answered 0 (record { plan = r.plan; stand = r.stand; mark = Some (kept_of r.stand); passes = r.passes })) (buffers floats b.words b.path)
   unfolding next_run gone
-  mark_done floats a f q = does_next mark r b _ a floats b.path q z refl refl f refl
+  mark_done floats f = does_next mark r b _ floats b.path z refl refl f refl
 
 -- ---- what the way to a place, and its dry count, ask
 

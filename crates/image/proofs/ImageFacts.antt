@@ -1,7 +1,6 @@
 -- What the theorem over lists of calls takes of the image: where a search and a mark lead from it, that its record and words are in range, and how long its buffers are.
 -- Definitions only. Assumes nothing.
-use Rattle.std.specs.Prelude.{ℕ, ◌+◌, ◌*◌, ◌≤◌, min, ◌≡◌, true, List, length, Float}
-use Rattle.std.proofs.Math.Option.{Option, none, some}
+use Rattle.std.specs.Prelude.{ℕ, ◌+◌, ◌*◌, ◌≤◌, min, ◌≡◌, true, List, length, Float, Option, Some, None}
 use Rattle.sparse.specs.Stored.{matrix}
 use Rattle.laplace.specs.Placed.{values_of}
 use Rattle.pde.specs.Path.{point_floats, coordinates_of}
@@ -15,8 +14,8 @@ use Rattle.image.specs.Image.{plan_of, stand_of, mark_of, floats_of, words_of, p
 
 -- a mark at a place of the run
 abbrev pub MarkIn : Option ℕ → ℕ → Type 0
-MarkIn none last = Unit
-MarkIn (some q) last = q ≤ last
+MarkIn None last = Unit
+MarkIn (Some q) last = q ≤ last
 
 -- floats, path and stand at place p, with a mark
 abbrev pub work_at : Task → ℕ → Option ℕ → List Float → List Float → Work
@@ -27,7 +26,7 @@ pub record Facts (c : Task) : Type 0 where
   pub seek-image : (p target : ℕ) (m : Option ℕ) (floats : List Float) (words : List ℕ) (path : List Float) → p ≤ last_place c → MarkIn m (last_place c)
       → seek (plan_of c) (words_of c words) (mark_of c m) target (work_at c p m floats path) ≡ work_at c (min target (last_place c)) m floats path
   pub mark_image : (p : ℕ) (m : Option ℕ) (floats : List Float) → p ≤ last_place c → MarkIn m (last_place c)
-      → kept_floats (plan_of c) (floats_of c (at c p) m floats) ≡ floats_of c (at c p) (some p) floats
+      → kept_floats (plan_of c) (floats_of c (at c p) m floats) ≡ floats_of c (at c p) (Some p) floats
   pub last_bound : last_place c ≤ farthest (triangle_count c) c.limit
   -- record and words are in range
   pub stand_sound_lem : (p : ℕ) → p ≤ last_place c → stand_sound (plan_of c) (stand_of p (at c p)) ≡ true

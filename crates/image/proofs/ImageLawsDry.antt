@@ -1,7 +1,7 @@
 -- Passes counted on the front alone, whatever it holds: no pass changes the front's length, and none depends on the norms or the path, so the stands are those of passes on the whole buffers.
 -- Assumes nothing.
 use Prim.Native.Nat.{ℕ, zero, suc, ◌+◌, ◌≤◌}
-use Rattle.std.specs.Prelude.{◌≡◌, List, [], ◌∷◌, ◌++◌, length, Float}
+use Rattle.std.specs.Prelude.{◌≡◌, List, [], ◌∷◌, ◌++◌, length, Float, Option, Some, None}
 use Rattle.std.proofs.Math.Path.{refl}
 use Rattle.std.proofs.Common.{sym, ap, ◌∙◌, arith, length-append, length-drop, length-take-le}
 use Rattle.std.proofs.Math.Seq.{take_at}
@@ -10,14 +10,14 @@ use Rattle.sparse.specs.Stored.{matrix}
 use Rattle.mesh.specs.Element.{flat}
 use Rattle.conjugate.specs.Solver as Solver
 use Rattle.conjugate.specs.Solver.{Turn, halted, reached, moved}
-use Rattle.pde.specs.declared.Start.{Start}
 use Rattle.model.specs.Run.{Next, over, solve, begin, cross}
-use Rattle.work.specs.declared.Given.{Given}
 use Rattle.work.specs.declared.Plan.{Plan}
 use Rattle.work.specs.declared.Stand.{Stand}
 use Rattle.work.specs.declared.Gives.{Gives}
 use Rattle.work.specs.Layout.{at_norms, matrix_at}
 use Rattle.work.specs.Memory.{Stepped, vectors_in, solved_step, set_out_step, solve_step, start_by, begin_step, cross_step, step_by, next_of, step_on, Work, work, floats_given, front_of, beyond_front, once, goes, Dry, dry}
+use Rattle.plane.specs.declared.Point.{Point}
+use Rattle.pde.specs.declared.Entry.{Entry}
 
 module _ (plan : Plan) (words : List ℕ) where
   -- ---- the front's length
@@ -28,14 +28,14 @@ module _ (plan : Plan) (words : List ℕ) where
   solved_long s f (reached x r norm) = simp length-splice
   solved_long s f (moved next norm) = simp length-splice
 
-  set_long : (s : Stand) (f : List Float) (k : ℕ) (st : Start) → length (set_out_step s f k st).front ≡ length f
+  set_long : (s : Stand) (f : List Float) (k : ℕ) (st : Option Entry) → length (set_out_step s f k st).front ≡ length f
   unfolding set_out_step
-  set_long s f k (Start.At p t e) = refl
-  set_long s f k Start.Nothing = refl
+  set_long s f k (Some at) = refl
+  set_long s f k None = refl
 
-  start_long : (f : List Float) (s : Stand) (g : Given) → length (start_by plan words f s g).front ≡ length f
-  start_long f s (Given.At p) = set_long s _ _ _ ∙ length-splice f _ _
-  start_long f s Given.Nothing = set_long s _ _ _ ∙ length-splice f _ _
+  start_long : (f : List Float) (s : Stand) (g : Option Point) → length (start_by plan words f s g).front ≡ length f
+  start_long f s (Some p) = set_long s _ _ _ ∙ length-splice f _ _
+  start_long f s None = set_long s _ _ _ ∙ length-splice f _ _
 
   by_long : (f : List Float) (s : Stand) (x : Next) → length (step_by plan words f s x).front ≡ length f
   unfolding solve_step begin_step cross_step

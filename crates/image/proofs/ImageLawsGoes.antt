@@ -1,10 +1,9 @@
 -- Passes in a row and a mark, on an image: k passes lead k places on, and no further than the last; a mark keeps the vectors.
 -- Assumes nothing.
 use Prim.Native.Nat.{ℕ, zero, suc, ◌+◌, ◌≤◌, ◌<◌, min}
-use Rattle.std.specs.Prelude.{◌≡◌, true, List, [], ◌∷◌, ◌++◌, eqb, Float}
+use Rattle.std.specs.Prelude.{◌≡◌, true, List, [], ◌∷◌, ◌++◌, eqb, Float, Option, Some}
 use Rattle.std.proofs.Math.Path.{ap}
 use Rattle.std.proofs.Common.{◌∙◌, ⊎_elim, eq-or-lt_of_le}
-use Rattle.std.proofs.Math.Option.{Option, some}
 use native.Mathlib.Omega.{arith}
 use Rattle.std.proofs.lemmas.Bool.{not-true}
 use Rattle.binary64.specs.Constants.{plus_zero}
@@ -45,10 +44,10 @@ module _ (c : Task) (z : Sized c) (m : Option ℕ) (floats : List Float) (words 
       let e : min (min (p + k) E + 1) E ≡ min (p + suc k) E = omega arith in
       ap (λ (w : Work). once (plan_of c) (words_of c words) w) (goes-image k p h) ∙ once-at (min (p + k) E) (omega arith) ∙ ap there e
 
-pub mark_image : (c : Task) → Sized c → (p : ℕ) (m : Option ℕ) (floats : List Float) → kept_floats (plan_of c) (floats_of c (at c p) m floats) ≡ floats_of c (at c p) (some p) floats
+pub mark_image : (c : Task) → Sized c → (p : ℕ) (m : Option ℕ) (floats : List Float) → kept_floats (plan_of c) (floats_of c (at c p) m floats) ≡ floats_of c (at c p) (Some p) floats
 unfolding kept_floats floats_of
 mark_image c z p m floats =
     let norms = padded (c.limit + 1) plus_zero (at c p).field.norms in
     let l = laid c z (at c p) (shaped_at c z p) in
     rw (part_vectors l (norms ∷ (kept_vectors c m ++ floats) ∷ []))
-    (put_kept l norms (kept_vectors c m) floats c.limit (length_norms c z (at c p) (shaped_at c z p)) (length_kept c m) ((at c p).field.solve.x ++ ((at c p).field.solve.r ++ (at c p).field.solve.p)) (length_kept c (some p)))
+    (put_kept l norms (kept_vectors c m) floats c.limit (length_norms c z (at c p) (shaped_at c z p)) (length_kept c m) ((at c p).field.solve.x ++ ((at c p).field.solve.r ++ (at c p).field.solve.p)) (length_kept c (Some p)))

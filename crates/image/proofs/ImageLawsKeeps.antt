@@ -1,6 +1,6 @@
 -- Whatever the record's scalars and the buffers hold within the ranges that the calls check: passes, the way to another place and a mark keep the lengths of floats and path, and all that lies past the places used.
 -- Assumes nothing.
-use Rattle.std.specs.Prelude.{ℕ, ◌+◌, ◌*◌, ◌≤◌, ◌≡◌, Bool, List, [], ◌∷◌, ◌++◌, eqb, length, drop, Float}
+use Rattle.std.specs.Prelude.{ℕ, ◌+◌, ◌*◌, ◌≤◌, ◌≡◌, Bool, List, [], ◌∷◌, ◌++◌, eqb, length, drop, Float, Option, Some, None}
 use Rattle.std.proofs.Math.Path.{refl}
 use Rattle.std.proofs.Common.{sym, ap, ◌∙◌, length-take, drop-drop}
 use Rattle.std.proofs.Math.Bool.{true, false}
@@ -15,20 +15,21 @@ use Rattle.sparse.specs.Stored.{matrix}
 use Rattle.mesh.specs.Element.{flat}
 use Rattle.conjugate.specs.Solver as Solver
 use Rattle.conjugate.specs.Solver.{Turn, halted, reached, moved}
-use Rattle.pde.specs.declared.Start.{Start}
 use Rattle.pde.specs.declared.Walk.{Walk}
 use Rattle.pde.specs.declared.Crossing.{Crossing}
 use Rattle.pde.specs.PathLaws.{length_coordinates, walked_more, walked-most}
 use Rattle.pde.specs.Path.{point_floats, coordinates_of, added}
 use Rattle.model.specs.Space.{factor}
 use Rattle.model.specs.Run.{next_by}
-use Rattle.work.specs.declared.Given.{Given}
 use Rattle.work.specs.declared.Plan.{Plan}
 use Rattle.work.specs.declared.Stand.{Stand}
 use Rattle.work.specs.declared.Gives.{Gives}
 use Rattle.work.specs.Layout.{at_norms, matrix_at}
 use Rattle.work.specs.Memory.{Stepped, vectors_in, solved_step, set_out_step, solve_step, start_by, begin_step, crossing_of, cross_step, step_by, next_of, step_on, Work, floats_given, path_given, front_of, beyond_front, once}
 use Rattle.image.proofs.ImageLawsDry.{front_long, joined_long}
+use Rattle.plane.specs.declared.Point.{Point}
+use Rattle.work.specs.declared.Kept.{Kept}
+use Rattle.pde.specs.declared.Entry.{Entry}
 
 -- ---- one list
 
@@ -110,14 +111,14 @@ module _ (plan : Plan) (words : List ℕ) (room : 1 ≤ plan.room) where
       go true e = omega arith
       go false e = omega (arith, leb-false plan.limit s.norms e)
 
-  set_fine : (s : Stand) (f : List Float) (k : ℕ) (st : Start) → InRange plan s → Fine plan s (set_out_step s f k st)
+  set_fine : (s : Stand) (f : List Float) (k : ℕ) (st : Option Entry) → InRange plan s → Fine plan s (set_out_step s f k st)
   unfolding set_out_step
-  set_fine s f k (Start.At p t e) h = record { gives = room; stand = record { norms = h.norms; points = room } }
-  set_fine s f k Start.Nothing h = record { gives = tt; stand = record { norms = h.norms; points = omega arith } }
+  set_fine s f k (Some at) h = record { gives = room; stand = record { norms = h.norms; points = room } }
+  set_fine s f k None h = record { gives = tt; stand = record { norms = h.norms; points = omega arith } }
 
-  start_fine : (f : List Float) (s : Stand) (g : Given) → InRange plan s → Fine plan s (start_by plan words f s g)
-  start_fine f s (Given.At p) h = set_fine s _ _ _ h
-  start_fine f s Given.Nothing h = set_fine s _ _ _ h
+  start_fine : (f : List Float) (s : Stand) (g : Option Point) → InRange plan s → Fine plan s (start_by plan words f s g)
+  start_fine f s (Some p) h = set_fine s _ _ _ h
+  start_fine f s None h = set_fine s _ _ _ h
 
   cross_fine : (f : List Float) (s : Stand) → InRange plan s → Fine plan s (cross_step plan words f s)
   unfolding cross_step

@@ -1,9 +1,8 @@
 -- How long the lists of an image are: each segment of the floats is as long as its place says, and each buffer is its used places and what was lent beyond them.
 -- Assumes nothing.
-use Rattle.std.specs.Prelude.{ℕ, ◌+◌, ◌*◌, ◌≤◌, ◌≡◌, List, [], ◌∷◌, ◌++◌, replicate, Float}
+use Rattle.std.specs.Prelude.{ℕ, ◌+◌, ◌*◌, ◌≤◌, ◌≡◌, List, [], ◌∷◌, ◌++◌, replicate, Float, Option, Some, None}
 use Rattle.std.proofs.Common.{sym, ◌∙◌, append-nil, append_assoc, arith}
 use Rattle.std.proofs.Math.Path.{ap}
-use Rattle.std.proofs.Math.Option.{Option, none, some}
 use Rattle.std.proofs.Math.ListN.{length, length-append}
 use Rattle.std.proofs.lemmas.List.{length-replicate}
 use Rattle.binary64.specs.Constants.{plus_zero}
@@ -66,8 +65,8 @@ three_long : (n : ℕ) (s : Solve) → Vectors n s → length (s.x ++ (s.r ++ s.
 three_long n s v = simp length-append (omega (arith, v.x, v.r, v.p))
 
 pub length_kept : (c : Task) (m : Option ℕ) → length (kept_vectors c m) ≡ 3 * vertex_count c
-length_kept c none = length-replicate (3 * vertex_count c) plus_zero
-length_kept c (some q) = three_long (vertex_count c) (at c q).field.solve (vectors_sized c q)
+length_kept c None = length-replicate (3 * vertex_count c) plus_zero
+length_kept c (Some q) = three_long (vertex_count c) (at c q).field.solve (vectors_sized c q)
 
 -- ---- the floats
 

@@ -13,8 +13,7 @@ use Rattle.stretch.specs.Stretch.{part, flat, off}
 use Rattle.stretch.specs.StretchLaws.{part_part, get_d_part}
 use Rattle.stretch.specs.SegmentLaws.{part_seg, seg_fits, off_suc}
 use Rattle.sparse.specs.Sparse.{Entry, entries}
-use Rattle.sparse.specs.declared.Csr.{Csr}
-use Rattle.sparse.specs.Stored.{row_at, rows_of}
+use Rattle.sparse.specs.Stored.{row_at, rows_of, CsrAt}
 use Rattle.laplace.specs.Matrix.{count}
 use Rattle.laplace.specs.Placed.{values_in, columns_in, values_of, columns_of, starts_from}
 
@@ -95,7 +94,7 @@ entries-map (e ∷ es) = ap (λ (r : List Entry). e ∷ r) (entries-map es)
 
 -- ---- the rows
 
-module _ (words : List ℕ) (floats : List Float) (m : Csr) (rs : List (List Entry)) (starts : part words m.starts (length rs + 1) ≡ starts_from 0 rs)
+module _ (words : List ℕ) (floats : List Float) (m : CsrAt) (rs : List (List Entry)) (starts : part words m.starts (length rs + 1) ≡ starts_from 0 rs)
     (cols : part words m.cols (length (flat rs)) ≡ columns_of rs) (vals : part floats m.vals (length (flat rs)) ≡ values_of rs) where
   start_is : (i : ℕ) → i ≤ length rs → get_or words (m.starts + i) 0 ≡ off rs i
   start_is i h =

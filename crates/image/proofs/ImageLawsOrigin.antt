@@ -1,10 +1,9 @@
 -- Back to an earlier place, on an image: to where the field ended, to the kept vectors, and to place 0 lead to the images there.
 -- Assumes nothing.
-use Rattle.std.specs.Prelude.{ℕ, ◌+◌, ◌-◌, ◌*◌, ◌≤◌, ◌≡◌, replicate, take, drop, Float}
+use Rattle.std.specs.Prelude.{ℕ, ◌+◌, ◌-◌, ◌*◌, ◌≤◌, ◌≡◌, replicate, take, drop, Float, Option, Some}
 use Rattle.std.proofs.Math.Path.{refl, ap}
 use Rattle.std.proofs.Common.{sym, ◌∙◌, take-append-drop}
 use mathlib.Core.List.{List, [], ◌∷◌, ◌++◌}
-use Rattle.std.proofs.Math.Option.{Option, some}
 use native.Mathlib.Omega.{arith}
 use Rattle.std.proofs.Math.ListN.{length, length-append, length-replicate}
 use Rattle.binary64.specs.Constants.{plus_zero}
@@ -133,15 +132,15 @@ module _ (c : Task) (z : Sized c) (s : State) (h : Shaped c s) (p q : ℕ) (floa
   abbrev more : List Float
   more = drop (length f.norms) s.field.norms
 
-  kept_floats_lem : norms_erased (plan_of c) (stand_of p s) (length f.norms) (gradients_erased (plan_of c) (splice (floats_of c s (some q) floats) (at_x (vertex_count c) (triangle_count c))
-      (part (floats_of c s (some q) floats) (at_kept (vertex_count c) (triangle_count c) c.limit) (3 * vertex_count c))))
-      ≡ floats_of c (state f (no_trail (triangle_count c))) (some q) floats
+  kept_floats_lem : norms_erased (plan_of c) (stand_of p s) (length f.norms) (gradients_erased (plan_of c) (splice (floats_of c s (Some q) floats) (at_x (vertex_count c) (triangle_count c))
+      (part (floats_of c s (Some q) floats) (at_kept (vertex_count c) (triangle_count c) c.limit) (3 * vertex_count c))))
+      ≡ floats_of c (state f (no_trail (triangle_count c))) (Some q) floats
   unfolding floats_of
   kept_floats_lem =
       let v : Vectors (vertex_count c) f.solve = (shaped_at c z q).vectors in
       let ns = s.field.norms in
       let m = c.limit + 1 in
-      let rest = kept_vectors c (some q) ++ floats in
+      let rest = kept_vectors c (Some q) ++ floats in
       let back = padded m plus_zero ns ∷ rest ∷ [] in
       let l = laid c z s h in
       let lv = laid_p (laid_r (laid_x l {y = f.solve.x} v.x) {y = f.solve.r} v.r) {y = f.solve.p} v.p in
@@ -156,7 +155,7 @@ module _ (c : Task) (z : Sized c) (s : State) (h : Shaped c s) (p q : ℕ) (floa
       ap (λ (y : List Float). splice (padded m plus_zero y) (length f.norms) (replicate (length more) plus_zero)) b
       ∙ padded-cut m plus_zero f.norms more (length f.norms) (length more) refl refl (omega arith) in
       rw (
-        part_kept l (padded m plus_zero ns) (kept_vectors c (some q)) floats c.limit w (length_kept c (some q)),
+        part_kept l (padded m plus_zero ns) (kept_vectors c (Some q)) floats c.limit w (length_kept c (Some q)),
         put_vectors l back f.solve.x f.solve.r f.solve.p v.x v.r v.p,
         put_gradients lv back (zeros (2 * triangle_count c)) no,
         e,
@@ -164,6 +163,6 @@ module _ (c : Task) (z : Sized c) (s : State) (h : Shaped c s) (p q : ℕ) (floa
         cut,
       )
 
-  pub to_kept_lem : to_kept (plan_of c) (kept_at c q) (image_of c s p (some q) floats path) ≡ image_of c (state f (no_trail (triangle_count c))) q (some q) floats path
+  pub to_kept_lem : to_kept (plan_of c) (kept_at c q) (image_of c s p (Some q) floats path) ≡ image_of c (state f (no_trail (triangle_count c))) q (Some q) floats path
   unfolding to_kept
-  to_kept_lem = work_is kept_floats_lem (path_erased_lem c z s h p (some q) floats [] path p f) (rw going)
+  to_kept_lem = work_is kept_floats_lem (path_erased_lem c z s h p (Some q) floats [] path p f) (rw going)

@@ -1,12 +1,11 @@
 -- A pass on the image of a state leaves the image of the state after a pass of the uninterrupted run: a pass of solving, the start pass, a crossing; and none where the path has its end.
 -- Assumes nothing.
-use Rattle.std.specs.Prelude.{ℕ, suc, ◌+◌, ◌*◌, ◌≤◌, ◌≡◌, Bool, eqb, Float}
+use Rattle.std.specs.Prelude.{ℕ, suc, ◌+◌, ◌*◌, ◌≤◌, ◌≡◌, Bool, eqb, Float, Option, Some, None}
 use Rattle.std.proofs.Math.Path.{refl, sym, ap}
 use Rattle.std.proofs.Common.{◌∙◌, add-one, arith, length-append, take-append-drop, eqb-true}
 use Rattle.std.proofs.Math.Bool.{true, false}
 use Rattle.std.proofs.lemmas.Bool.{false≢true, not-false}
 use mathlib.Core.List.{List, [], ◌∷◌, ◌++◌}
-use Rattle.std.proofs.Math.Option.{Option, none, some}
 use Rattle.std.proofs.Math.ListN.{length}
 use Rattle.binary64.specs.Constants.{plus_zero}
 use Rattle.plane.specs.declared.Point.{Point}
@@ -17,7 +16,6 @@ use Rattle.laplace.specs.Placed.{padded}
 use Rattle.conjugate.specs.Solver as Solver
 use Rattle.conjugate.specs.Solver.{Turn, halted, reached, moved}
 use Rattle.gradient.specs.Gradient.{gradients}
-use Rattle.pde.specs.declared.Start.{Start}
 use Rattle.pde.specs.declared.Crossing.{Crossing}
 use Rattle.pde.specs.Start.{triangle_containing, pick_start}
 use Rattle.pde.specs.Crossing.{crossing}
@@ -34,12 +32,13 @@ use Rattle.work.specs.declared.Stand.{Stand}
 use Rattle.work.specs.declared.Gives.{Gives}
 use Rattle.work.specs.Layout.{at_norms}
 use Rattle.work.specs.Memory.{Stepped, solved_stand, solved_step, set_out_step, solve_step, start_by, begin_step, cross_step, step_by, next_of, step_on, Work, work, floats_given, path_given, front_of, beyond_front, once}
-use Rattle.image.specs.Image.{given_of, plan_of, stand_of, kept_vectors, front_segments, floats_of, words_of, path_of}
+use Rattle.image.specs.Image.{plan_of, stand_of, kept_vectors, front_segments, floats_of, words_of, path_of}
 use Rattle.image.proofs.ImageLawsPadded.{length-padded, padded-more}
 use Rattle.image.proofs.ImageLawsSegments.{laid_x, laid_r, laid_p, laid_gradients, front_segs, beyond_segs, joined_segs, part_vertices, part_values, part_x, part_r, part_p, part_gradients, put_gradients}
 use Rattle.image.proofs.ImageLawsLengths.{Shaped, fronts, Lies, shaped_at, laid}
 use Rattle.image.proofs.ImageLawsRead.{words_triangles, words_neighbours, words_tags, matrix-read}
 use Rattle.image.proofs.ImageLawsStep.{clear_segs, reached_segs, moved_segs, norm_segs}
+use Rattle.pde.specs.declared.Entry.{Entry}
 
 -- the buffers and the scalars of a state, at place p and with a mark
 abbrev pub image_of : Task → State → ℕ → Option ℕ → List Float → List Float → Work
@@ -180,23 +179,23 @@ module _ (c : Task) (z : Sized c) (s : State) (h : Shaped c s) (p : ℕ) (m : Op
   abbrev G : List Float
   G = flat (fronts c s.field.solve.x s.field.solve.r s.field.solve.p gs [])
 
-  set-image : (otherwise : ℕ) (st : Start) → s.trail.path ≡ [] → Shaped c (state s.field (set_out st otherwise gs))
+  set-image : (otherwise : ℕ) (st : Option Entry) → s.trail.path ≡ [] → Shaped c (state s.field (set_out st otherwise gs))
       → written plan here (set_out_step (stand_of p s) G otherwise st) ≡ image_of c (state s.field (set_out st otherwise gs)) (suc p) m floats path
   unfolding set_out_step floats_of path_of
-  set-image otherwise (Start.At q i e) k h' =
+  set-image otherwise (Some at) k h' =
       let fits : 1 ≤ c.room = z.room in
-      let more : splice (filled s.trail.path ++ path) 0 (coordinates_of (q ∷ [])) ≡ filled (s.trail.path ++ (q ∷ [])) ++ path = path_more (q ∷ []) 0 (ap (λ (l : List Point). point_floats * length l) k) (rw k fits) in
-      work_is (plain (laid_gradients lies gs_long) G refl) (more ∙ ap (λ (y : List Point). filled (y ++ (q ∷ [])) ++ path) k) (rw (add-one p))
-  set-image otherwise Start.Nothing k h' =
+      let more : splice (filled s.trail.path ++ path) 0 (coordinates_of (at.point ∷ [])) ≡ filled (s.trail.path ++ (at.point ∷ [])) ++ path = path_more (at.point ∷ []) 0 (ap (λ (l : List Point). point_floats * length l) k) (rw k fits) in
+      work_is (plain (laid_gradients lies gs_long) G refl) (more ∙ ap (λ (y : List Point). filled (y ++ (at.point ∷ [])) ++ path) k) (rw (add-one p))
+  set-image otherwise None k h' =
       work_is (plain (laid_gradients lies gs_long) G refl) (ap (λ (y : List Point). filled y ++ path) k) (rw (add-one p))
 
   start-image : (g : Option Point) → s.trail.path ≡ [] → Shaped c (state s.field (start_from g c s.field.solve.x gs))
-      → written plan here (start_by plan W F (stand_of p s) (given_of g)) ≡ image_of c (state s.field (start_from g c s.field.solve.x gs)) (suc p) m floats path
+      → written plan here (start_by plan W F (stand_of p s) g) ≡ image_of c (state s.field (start_from g c s.field.solve.x gs)) (suc p) m floats path
   unfolding start_from
-  start-image (some q) k h' =
+  start-image (Some q) k h' =
       rw (part_vertices lies [], part_x lies [], words_triangles c z words, put_gradients lies [] gs gs_long)
       (set-image 8 (triangle_containing c.vertices c.triangles t q) k h')
-  start-image none k h' =
+  start-image None k h' =
       rw (part_vertices lies [], part_x lies [], words_triangles c z words, words_neighbours c z words, words_tags c z words, put_gradients lies [] gs gs_long)
       (set-image 9 (pick_start c.vertices c.triangles c.neighbours c.tags t s.field.solve.x) k h')
 

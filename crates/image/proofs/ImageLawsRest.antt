@@ -1,7 +1,7 @@
 -- Whatever the record and the buffers hold: a call keeps the lengths of floats and path, all that lies past the places used, and every word. Within the ranges that a call checks, so do passes in a row and the way to a place.
 -- Assumes nothing.
 use Prim.Native.Nat.{ℕ, zero, suc, ◌+◌, ◌-◌, ◌*◌, ◌≤◌}
-use Rattle.std.specs.Prelude.{◌≡◌, Bool, not, ◌&&◌, List, [], ◌∷◌, eqb, ltb, Float}
+use Rattle.std.specs.Prelude.{◌≡◌, Bool, not, ◌&&◌, List, [], ◌∷◌, eqb, ltb, Float, Option, Some, None}
 use Rattle.std.proofs.Math.Path.{refl, subst}
 use Rattle.std.proofs.Common.{sym, leb-true, eqb-true}
 use Rattle.std.proofs.Math.Bool.{true, false}
@@ -23,7 +23,6 @@ use Rattle.model.proofs.SizeLaws.{begun_vectors}
 use Rattle.model.specs.Machine.{Call, advance, back, mark, return}
 use Rattle.work.specs.declared.Plan.{Plan}
 use Rattle.work.specs.declared.Kept.{Kept}
-use Rattle.work.specs.declared.Mark.{Mark}
 use Rattle.work.specs.declared.Origin.{Origin}
 use Rattle.work.specs.declared.Run.{Run}
 use Rattle.work.specs.Layout.{at_right, at_x, at_r, at_p, at_product, at_kept, at_gradients, at_norms, matrix_at}
@@ -139,9 +138,9 @@ module _ (plan : Plan) (words : List ℕ) (room : 1 ≤ plan.room) where
 
     -- ---- the place sought
 
-    mark_moves : (m : Mark) (target : ℕ) → Moves plan w (from_origin plan words (from_mark plan.limit m target) w)
-    mark_moves Mark.Nothing target = zero_moves
-    mark_moves (Mark.At k) target = go (leb k.place target && leb k.norms plan.limit) refl
+    mark_moves : (m : Option Kept) (target : ℕ) → Moves plan w (from_origin plan words (from_mark plan.limit m target) w)
+    mark_moves None target = zero_moves
+    mark_moves (Some k) target = go (leb k.place target && leb k.norms plan.limit) refl
       where
         go : (b : Bool) → (leb k.place target && leb k.norms plan.limit) ≡ b → Moves plan w (from_origin plan words (pick b (Origin.Kept k) Origin.Zero) w)
         go true e = kept_moves k (leb-true k.norms plan.limit (and_true (leb k.place target) (leb k.norms plan.limit) e).1)
@@ -154,18 +153,18 @@ module _ (plan : Plan) (words : List ℕ) (room : 1 ≤ plan.room) where
     ended_moves true n = started_moves n
     ended_moves false n = solved_moves
 
-    any_moves : (m : Mark) (target : ℕ) (a b : Bool) → (not (eqb w.stand.end 0) && leb solved_place_of target) ≡ b
+    any_moves : (m : Option Kept) (target : ℕ) (a b : Bool) → (not (eqb w.stand.end 0) && leb solved_place_of target) ≡ b
         → Moves plan w (from_origin plan words (pick a Origin.Here (pick b (pick (ltb solved_place_of target) Origin.Started Origin.Solved) (from_mark plan.limit m target))) w)
     any_moves m target true b e = record { keeps = keeps_none plan w; within = h }
     any_moves m target false true e =
         ended_moves (ltb solved_place_of target) (eqb-false w.stand.end 0 (not-true (eqb w.stand.end 0) (and_true (not (eqb w.stand.end 0)) (leb solved_place_of target) e).0))
     any_moves m target false false e = mark_moves m target
 
-    origin_moves : (m : Mark) (target : ℕ) → Moves plan w (from_origin plan words (origin_of plan.limit w.stand m target) w)
+    origin_moves : (m : Option Kept) (target : ℕ) → Moves plan w (from_origin plan words (origin_of plan.limit w.stand m target) w)
     unfolding origin_of
     origin_moves m target = any_moves m target (leb w.stand.place target) (not (eqb w.stand.end 0) && leb (solved_at w.stand.norms w.stand.end) target) refl
 
-    pub seek_moves : (m : Mark) (target : ℕ) → Moves plan w (seek plan words m target w)
+    pub seek_moves : (m : Option Kept) (target : ℕ) → Moves plan w (seek plan words m target w)
     unfolding seek
     seek_moves m target =
         let o = from_origin plan words (origin_of plan.limit w.stand m target) w in

@@ -1,11 +1,10 @@
 -- The place sought, on an image: whatever the origin, the image at that place, or at the last place where it lies beyond.
 -- Assumes nothing.
 use Prim.Native.Nat.{ℕ, suc, ◌+◌, ◌-◌, ◌≤◌, ◌<◌, min}
-use Rattle.std.specs.Prelude.{◌≡◌, ◌≢◌, Bool, true, false, not, ◌&&◌, List, eqb, leb, ltb, length, Float}
+use Rattle.std.specs.Prelude.{◌≡◌, ◌≢◌, Bool, true, false, not, ◌&&◌, List, eqb, leb, ltb, length, Float, Option, Some, None}
 use Rattle.std.proofs.Math.Path.{refl, ap}
 use Rattle.std.proofs.Common.{sym, ◌∙◌, leb-true, ltb-true, leb-false, le-leb, eqb-true, ne_eqb}
 use Rattle.std.proofs.lemmas.Bool.{false≢true, eqb-false, not-true}
-use Rattle.std.proofs.Math.Option.{Option, none, some}
 use native.Mathlib.Omega.{arith}
 use Rattle.binary64.specs.Number.{pick}
 use Rattle.model.specs.Task.{Task, triangle_count}
@@ -120,13 +119,13 @@ module _ (c : Task) (z : Sized c) (floats : List Float) (words : List ℕ) (path
   unfolding at
   from_zero m = arrived m (to_zero (plan_of c) (words_of c words) (there m p)) 0 (to_zero_lem c z (at c p) (shaped_at c z p) p m floats words path) (omega arith) (omega arith)
 
-  from_kept : (q : ℕ) → target < p → q ≤ target → solved_test c p target ≡ false → onward (to_kept (plan_of c) (kept_at c q) (there (some q) p)) ≡ there (some q) (min target E)
+  from_kept : (q : ℕ) → target < p → q ≤ target → solved_test c p target ≡ false → onward (to_kept (plan_of c) (kept_at c q) (there (Some q) p)) ≡ there (Some q) (min target E)
   from_kept q h k e =
       let u : (at c q).field.end ≡ 0 = unsolved_kept c p q target (omega arith) k e in
       let s : state (at c q).field (no_trail (triangle_count c)) ≡ at c q =
       state_is (at c q) (at c q).field (no_trail (triangle_count c)) refl (unsolved_trail c q u) in
-      arrived (some q) (to_kept (plan_of c) (kept_at c q) (there (some q) p)) q
-      (to_kept_lem c z (at c p) (shaped_at c z p) p q floats path (norms_grow c q p (omega arith)) u ∙ ap (λ (x : State). image_of c x q (some q) floats path) s) (omega arith) k
+      arrived (Some q) (to_kept (plan_of c) (kept_at c q) (there (Some q) p)) q
+      (to_kept_lem c z (at c p) (shaped_at c z p) p q floats path (norms_grow c q p (omega arith)) u ∙ ap (λ (x : State). image_of c x q (Some q) floats path) s) (omega arith) k
 
   -- ---- whichever it is
 
@@ -134,13 +133,13 @@ module _ (c : Task) (z : Sized c) (floats : List Float) (words : List ℕ) (path
   by m o = onward (from_origin (plan_of c) (words_of c words) o (there m p))
 
   by_kept : (q : ℕ) (b : Bool) → target < p → solved_test c p target ≡ false → (leb q target && leb (length (at c q).field.norms) c.limit) ≡ b
-      → by (some q) (pick b (Origin.Kept (kept_at c q)) Origin.Zero) ≡ there (some q) (min target E)
+      → by (Some q) (pick b (Origin.Kept (kept_at c q)) Origin.Zero) ≡ there (Some q) (min target E)
   by_kept q true h e y = from_kept q h (leb-true q target (and_true (leb q target) (leb (length (at c q).field.norms) c.limit) y).0) e
-  by_kept q false h e y = from_zero (some q)
+  by_kept q false h e y = from_zero (Some q)
 
   by_mark : (m : Option ℕ) → target < p → solved_test c p target ≡ false → by m (from_mark c.limit (mark_of c m) target) ≡ there m (min target E)
-  by_mark none h e = from_zero none
-  by_mark (some q) h e = by_kept q (leb q target && leb (length (at c q).field.norms) c.limit) h e refl
+  by_mark None h e = from_zero None
+  by_mark (Some q) h e = by_kept q (leb q target && leb (length (at c q).field.norms) c.limit) h e refl
 
   by_any : (m : Option ℕ) (a b : Bool) → leb p target ≡ a → solved_test c p target ≡ b
       → by m (pick a Origin.Here (pick b (pick (ltb (solved_place (at c p).field) target) Origin.Started Origin.Solved) (from_mark c.limit (mark_of c m) target))) ≡ there m (min target E)

@@ -1,9 +1,8 @@
 -- What a call checks of a record and of its words holds of every image: the counts of its place and of its mark, and the indices in its words.
 -- Assumes nothing.
-use Rattle.std.specs.Prelude.{ℕ, zero, suc, ◌+◌, ◌-◌, ◌*◌, ◌≤◌, ◌<◌, ◌≡◌, ◌≢◌, ◌⊎◌, Bool, true, false, not, ◌&&◌, ◌||◌, List, [], ◌∷◌, ◌++◌, eqb, leb, ltb, get_or, replicate}
+use Rattle.std.specs.Prelude.{ℕ, zero, suc, ◌+◌, ◌-◌, ◌*◌, ◌≤◌, ◌<◌, ◌≡◌, ◌≢◌, ◌⊎◌, Bool, true, false, not, ◌&&◌, ◌||◌, List, [], ◌∷◌, ◌++◌, eqb, leb, ltb, get_or, replicate, Option, Some, None}
 use Rattle.std.proofs.Math.Path.{refl}
 use Rattle.std.proofs.Common.{sym, ⊎_elim, append_assoc, append-nil, arith, length-append}
-use Rattle.std.proofs.Math.Option.{Option, none, some}
 use Rattle.std.proofs.Math.ListN.{length}
 use borrow.Author.Tests.{le-leb, lt-ltb, eq-eqb, eqb-true, eqb-false}
 use Rattle.binary64.specs.Number.{pick}
@@ -82,13 +81,13 @@ module _ (c : Task) (z : Sized c) where
 
   -- a mark at a place of the run
   abbrev pub MarkIn : Option ℕ → Type 0
-  MarkIn none = Unit {0}
-  MarkIn (some q) = q ≤ last_place c
+  MarkIn None = Unit {0}
+  MarkIn (Some q) = q ≤ last_place c
 
   pub mark_sound_lem : (m : Option ℕ) → MarkIn m → mark_sound (plan_of c) (mark_of c m) ≡ true
   unfolding mark_sound
-  mark_sound_lem none h = refl
-  mark_sound_lem (some q) h =
+  mark_sound_lem None h = refl
+  mark_sound_lem (Some q) h =
       let far : q ≤ farthest t c.limit = omega (arith, last_bound c) in
       rw (le-leb q (farthest t c.limit) far, le-leb 1 (length (at c q).field.norms) (norms_some c q)) (le-leb (length (at c q).field.norms) (c.limit + 1) (norms_bound c q))
 

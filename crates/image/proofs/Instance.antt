@@ -1,6 +1,5 @@
 -- What the theorem over lists of calls takes of the image holds of every task whose sizes are in range: `Facts` and `Parts`. Assumes nothing.
-use Rattle.std.proofs.Math.Option.{Option, none, some}
-use Rattle.std.specs.Prelude.{ℕ}
+use Rattle.std.specs.Prelude.{ℕ, Option, Some, None}
 use Rattle.std.proofs.Common.{arith}
 use Rattle.model.specs.Task.{Task}
 use Rattle.model.specs.Run.{at, matrix_of, last_place}
@@ -17,8 +16,8 @@ use Rattle.image.proofs.ImageLawsSound as Sound
 
 module _ (c : Task) (z : Sized c) where
   marked : (m : Option ℕ) → MarkIn m (last_place c) → Sound.MarkIn c z m
-  marked none h = tt
-  marked (some q) h = h
+  marked None h = tt
+  marked (Some q) h = h
 
   pub facts : Facts c
   facts = record {

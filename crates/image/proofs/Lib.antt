@@ -17,6 +17,7 @@ pub mod ImageLawsSound
 pub mod ImageLawsStep
 pub mod Instance
 pub mod ListTheorem
+pub mod RefusalLaws
 pub mod ReplayLaws
 pub mod ReplayTheorem
 pub mod ShownTheorem

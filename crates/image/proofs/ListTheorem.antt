@@ -1,11 +1,10 @@
 -- The theorem over lists of calls (document 01, Counter machine; demand 3): after every list of calls, each lent the front of each buffer, record, buffers and refusals are those of the uninterrupted run
 -- where the counter machine stands. It takes of the image what `Facts` states. Assumes nothing.
-use Rattle.std.specs.Prelude.{ℕ, ◌+◌, ◌-◌, ◌*◌, ◌≤◌, min, ◌≡◌, Bool, length, take, drop, ltb, eqb, Float}
+use Rattle.std.specs.Prelude.{ℕ, ◌+◌, ◌-◌, ◌*◌, ◌≤◌, min, ◌≡◌, Bool, length, take, drop, ltb, eqb, Float, Option, Some, None}
 use Rattle.std.proofs.Math.Path.{refl, ap}
 use Rattle.std.proofs.Common.{sym, ◌∙◌, arith, length-take, take-append-drop}
 use Rattle.std.proofs.Math.Bool.{true, false}
 use mathlib.Core.List.{List, [], ◌∷◌, ◌++◌, append_assoc, append-nil}
-use Rattle.std.proofs.Math.Option.{Option, none, some}
 use Rattle.std.proofs.Math.Seq.{take-append-add, drop-append-add}
 use Rattle.binary64.specs.Number.{pick}
 use Rattle.stretch.specs.Stretch.{flat}
@@ -135,13 +134,13 @@ module _ (c : Task) (facts : Facts c) where
   -- ---- where a call leads from an image
 
   mark_place_lem : (m : Option ℕ) (p : ℕ) → p ≤ last_place c → MarkIn m (last_place c) → mark_or m p ≤ last_place c
-  mark_place_lem none p h g = h
-  mark_place_lem (some q) p h g = g
+  mark_place_lem None p h g = h
+  mark_place_lem (Some q) p h g = g
 
   -- the record's mark and the machine's
   same_mark : (m : Option ℕ) (p : ℕ) → mark_place (mark_of c m) p ≡ mark_or m p
-  same_mark none p = refl
-  same_mark (some q) p = refl
+  same_mark None p = refl
+  same_mark (Some q) p = refl
 
   sought : (s : Counter) (rest : Rest) (target q : ℕ) → Within (last_place c) s → min target (last_place c) ≡ q
       → sought_at (run_of c s) (image c s rest) target ≡ work_at c q s.mark rest.floats rest.path
@@ -165,8 +164,8 @@ module _ (c : Task) (facts : Facts c) where
   -- ---- a call that is lent enough: its refusal, record and buffers are those of the machine
 
   return_late : (r : Run) (b : Buffers) (m : Option ℕ) → r.mark ≡ mark_of c m → late_fault return r b ≡ no_mark m
-  return_late r b none e = rw e
-  return_late r b (some q) e = rw e
+  return_late r b None e = rw e
+  return_late r b (Some q) e = rw e
 
   same-late : (call : Call) (s : Counter) (rest : Rest) → Within (last_place c) s → late_fault call (run_of c s) (image c s rest) ≡ late (last_place c) call s
   unfolding run_of

@@ -10,7 +10,7 @@ use Rattle.model.specs.Task.{task}
 use Rattle.model.specs.Machine.{return, fresh, needs, Lent}
 use Rattle.work.specs.declared.Run.{Run}
 use Rattle.work.specs.Record.{no_run}
-use Rattle.image.specs.declared.Answer.{Answer}
+use Rattle.image.specs.Answer.{Answer}
 use Rattle.image.specs.Calls.{Buffers, buffers, answered, fault, run_after, buffers_after, Does}
 use Rattle.image.specs.CallLaws.{lacking}
 use Rattle.image.specs.Image.{run_of, image, rest_of}
@@ -21,13 +21,13 @@ use Rattle.image.specs.Replay.{opened, Opens, call_of, lent_at, decoded, Turned,
 -- ---- opening
 
 module _ (sheet : List ℕ) (b : Buffers) where
-  pub opens_refused : (a : Answer) (k : ℕ) → a ≡ answered k no_run → parse sheet ≡ refused k → Opens sheet b a b
+  pub opens_refused : (k : ℕ) → parse sheet ≡ refused k → Opens sheet b (answered k no_run) b
   unfolding opened
-  opens_refused a k q e = record { answer = q ∙ rw e; held = rw e }
+  opens_refused k e = record { answer = rw e; held = rw e }
 
-  pub opens_short : (a : Answer) → a ≡ answered 8 no_run → (c : Content) → parse sheet ≡ accepted c → lacking (needs (task c)) (lengths_of b) ≡ true → Opens sheet b a b
+  pub opens_short : (c : Content) → parse sheet ≡ accepted c → lacking (needs (task c)) (lengths_of b) ≡ true → Opens sheet b (answered 8 no_run) b
   unfolding opened
-  opens_short a q c e t = record { answer = q ∙ rw (e, t); held = rw (e, t) }
+  opens_short c e t = record { answer = rw (e, t); held = rw (e, t) }
 
   pub opens_open : (c : Content) (r : Run) (b' : Buffers) → parse sheet ≡ accepted c → lacking (needs (task c)) (lengths_of b) ≡ false → r ≡ run_of (task c) fresh → b' ≡ image (task c) fresh (rest_of (task c) b)
       → Opens sheet b (answered 0 r) b'

@@ -15,7 +15,7 @@ use Rattle.model.specs.Machine.{Space, fresh, needs, short}
 use Rattle.work.specs.declared.Run.{Run}
 use Rattle.image.proofs.AcceptedLaws.{pick_eight}
 use Rattle.work.specs.Record.{no_run}
-use Rattle.image.specs.declared.Answer.{Answer}
+use Rattle.image.specs.Answer.{Answer}
 use Rattle.image.specs.Calls.{Buffers, answered}
 use Rattle.image.specs.CallLaws.{Enough, lacking, lacking_none}
 use Rattle.image.specs.Image.{run_of, image, floats_used, words_used, rest_of}

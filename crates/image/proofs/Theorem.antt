@@ -1,5 +1,5 @@
 -- Demand 3 (document 01, Counter machine), with nothing left to assume: what every list of calls leaves, said of a task, of a sheet, and of `replay`. Assumes nothing.
-use Rattle.std.specs.Prelude.{ℕ, ◌+◌, ◌*◌, ◌≤◌, ◌≡◌, List, [], length, Float}
+use Rattle.std.specs.Prelude.{ℕ, ◌+◌, ◌*◌, ◌≤◌, ◌≡◌, List, length, Float}
 use Rattle.std.proofs.Common.{◌∙◌, arith, le-leb}
 use Rattle.stretch.specs.Stretch.{part}
 use Rattle.pde.specs.Path.{point_floats, coordinates_of}
@@ -14,7 +14,7 @@ use Rattle.model.specs.Run.{State, at, last_place}
 use Rattle.model.specs.Machine.{Space, Counter, fresh, needs, short, Lent}
 use Rattle.work.specs.declared.Run.{Run}
 use Rattle.work.specs.Layout.{at_x, at_gradients, at_norms}
-use Rattle.image.specs.declared.Answer.{Answer}
+use Rattle.image.specs.Answer.{Answer}
 use Rattle.image.specs.Calls.{Buffers, answered}
 use Rattle.image.specs.Image.{plan_of, run_of, Rest, image, floats_used, rest_of}
 use Rattle.image.proofs.Instance.{facts, parts}

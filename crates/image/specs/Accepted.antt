@@ -1,21 +1,21 @@
 -- What is known of a record and buffers that no call is refused on for what they hold: the plan's counts, the space, and every index and count in its range. Assumes nothing.
-use Rattle.std.specs.Prelude.{ℕ, ◌+◌, ◌*◌, ◌≤◌, ◌<◌, ◌≡◌, ◌⊎◌}
+use Rattle.std.specs.Prelude.{ℕ, ◌+◌, ◌*◌, ◌≤◌, ◌<◌, ◌≡◌, ◌⊎◌, Option, Some, None}
 use Rattle.model.specs.Space.{factor, farthest}
 use Rattle.work.specs.declared.Plan.{Plan}
 use Rattle.work.specs.declared.Stand.{Stand}
-use Rattle.work.specs.declared.Mark.{Mark}
 use Rattle.work.specs.declared.Run.{Run}
 use Rattle.work.specs.Ready.{Ready, Standing, MarkKeeping, Roomy}
 use Rattle.image.specs.Calls.{Buffers}
+use Rattle.work.specs.declared.Kept.{Kept}
 
 -- ---- the counts of a place and of a mark
 
 abbrev pub PlaceIn : Plan → ℕ → Type 0
 PlaceIn p k = k ≤ farthest p.t p.limit
 
-abbrev pub MarkIn : Plan → Mark → Type 0
-MarkIn p Mark.Nothing = Unit
-MarkIn p (Mark.At k) = PlaceIn p k.place × (1 ≤ k.norms) × (k.norms ≤ p.limit + 1)
+abbrev pub MarkIn : Plan → Option Kept → Type 0
+MarkIn p None = Unit
+MarkIn p (Some k) = PlaceIn p k.place × (1 ≤ k.norms) × (k.norms ≤ p.limit + 1)
 
 -- both ends and the crossings of a place
 pub record EndsIn (p : Plan) (s : Stand) : Type 0 where

@@ -1,6 +1,8 @@
 -- The four calls as total definitions of the record, the arguments and the lent buffers: the refusal's number, the record and the buffers after the call, whatever they hold.
 -- The order of refusals is document 01's: 10 for n, T, limit or room; 8; every other 10; 9. Definitions only. Assumes nothing.
-use Rattle.std.specs.Prelude.{ℕ, ◌+◌, ◌-◌, ◌*◌, min, Bool, true, ◌&&◌, ◌||◌, not, ◌≡◌, List, [], ◌∷◌, leb, ltb, eqb, length, Float}
+use Rattle.std.specs.Prelude.{ℕ, ◌+◌, ◌-◌, ◌*◌, min, Bool, true, ◌&&◌, ◌||◌, not, ◌≡◌, List, [], ◌∷◌, leb, ltb, eqb, length, Float, Option, Some, None, Result, Ok, Err}
+use Rattle.refusal.specs.declared.Refusal.{Refusal}
+use Rattle.refusal.specs.Refusal.{number_of}
 use Rattle.binary64.specs.Number.{pick}
 use Rattle.stretch.specs.Stretch.{part}
 use Rattle.sparse.specs.Scan.{all_below, rises}
@@ -11,11 +13,11 @@ use Rattle.model.specs.Space.{factor, farthest, float_space, word_space, path_sp
 use Rattle.model.specs.Machine.{Call, advance, back, mark, return, most}
 use Rattle.work.specs.declared.Plan.{Plan}
 use Rattle.work.specs.declared.Stand.{Stand}
-use Rattle.work.specs.declared.Mark.{Mark}
 use Rattle.work.specs.declared.Run.{Run}
 use Rattle.work.specs.Layout.{at_neighbours, at_starts, at_columns}
 use Rattle.work.specs.Memory.{Work, work, seek, kept_floats, kept_of}
-use Rattle.image.specs.declared.Answer.{Answer}
+use Rattle.work.specs.declared.Kept.{Kept}
+use Rattle.image.specs.Answer.{Answer}
 
 -- the three lent buffers
 pub record Buffers : Type 0 where
@@ -29,6 +31,11 @@ buffers f w p = record { floats = f; words = w; path = p }
 -- a refusal's number, 0 if there is none, with a record
 abbrev pub answered : ℕ → Run → Answer
 answered k r = record { refused = k; run = r }
+
+-- what an outcome answers: the run that it gives, or its refusal's number with the run from before
+abbrev pub answer_of : Run → Result Run Refusal → Answer
+answer_of before (Ok r) = answered 0 r
+answer_of before (Err e) = answered (number_of e) before
 
 -- ---- what refuses a call
 
@@ -59,9 +66,9 @@ stand_sound p s =
     && (leb s.crossings (factor * p.t)
     && (eqb s.walk.points 0 || (ltb s.walk.triangle p.t && (not (eqb s.walk.end 0) || ltb s.crossings (factor * p.t))))))))))))
 
-unfoldable pub mark_sound : Plan → Mark → Bool
-mark_sound p Mark.Nothing = true
-mark_sound p (Mark.At k) = leb k.place (farthest p.t p.limit) && (leb 1 k.norms && leb k.norms (p.limit + 1))
+unfoldable pub mark_sound : Plan → Option Kept → Bool
+mark_sound p None = true
+mark_sound p (Some k) = leb k.place (farthest p.t p.limit) && (leb 1 k.norms && leb k.norms (p.limit + 1))
 
 -- every word is −1's or below t
 unfoldable pub all_none_or_below : ℕ → List ℕ → Bool
@@ -89,9 +96,9 @@ work_of r b = work b.floats b.path r.stand
 abbrev pub sought_at : Run → Buffers → ℕ → Work
 sought_at r b target = seek r.plan b.words r.mark target (work_of r b)
 
-abbrev pub mark_place : Mark → ℕ → ℕ
-mark_place Mark.Nothing p = p
-mark_place (Mark.At k) p = k.place
+abbrev pub mark_place : Option Kept → ℕ → ℕ
+mark_place None p = p
+mark_place (Some k) p = k.place
 
 unfoldable pub gone : Call → Run → Buffers → Work
 gone (advance k) r b = sought_at r b (min (r.stand.place + k) (farthest r.plan.t r.plan.limit))
@@ -106,19 +113,19 @@ late_fault (back k) r b = 0
 late_fault mark r b = 0
 late_fault return r b = no_mark_fault r.mark
   where
-    no_mark_fault : Mark → ℕ
-    no_mark_fault Mark.Nothing = 9
-    no_mark_fault (Mark.At k) = 0
+    no_mark_fault : Option Kept → ℕ
+    no_mark_fault None = 9
+    no_mark_fault (Some k) = 0
 
 -- the refusal's number, 0 if there is none
 unfoldable pub fault : Call → Run → Buffers → ℕ
 unfolding held_fault gone
 fault c r b = held_fault r b then late_fault c r b
 
-abbrev pub mark_after : Call → Run → Mark
+abbrev pub mark_after : Call → Run → Option Kept
 mark_after (advance k) r = r.mark
 mark_after (back k) r = r.mark
-mark_after mark r = Mark.At (kept_of r.stand)
+mark_after mark r = Some (kept_of r.stand)
 mark_after return r = r.mark
 
 abbrev pub passes_after : Call → Run → Work → ℕ

@@ -1,6 +1,5 @@
 -- The record and the buffers that the uninterrupted run of a task has at a place, with a mark, a pass count and what was lent beyond the places used. Definitions only. Assumes nothing.
-use Rattle.std.specs.Prelude.{ℕ, ◌+◌, ◌*◌, List, [], ◌∷◌, ◌++◌, length, replicate, drop, Float}
-use Rattle.std.proofs.Math.Option.{Option, none, some}
+use Rattle.std.specs.Prelude.{ℕ, ◌+◌, ◌*◌, List, [], ◌∷◌, ◌++◌, length, replicate, drop, Float, Option, Some, None}
 use Rattle.binary64.specs.Constants.{plus_zero}
 use Rattle.plane.specs.declared.Point.{Point}
 use Rattle.stretch.specs.Stretch.{flat}
@@ -9,19 +8,13 @@ use Rattle.laplace.specs.Placed.{values_of, columns_of, starts_of, padded}
 use Rattle.model.specs.Task.{Task, vertex_count, triangle_count}
 use Rattle.model.specs.Run.{State, at, matrix_of, right_of}
 use Rattle.model.specs.Machine.{Counter}
-use Rattle.work.specs.declared.Given.{Given}
 use Rattle.work.specs.declared.Plan.{Plan}
 use Rattle.work.specs.declared.Stand.{Stand}
 use Rattle.work.specs.declared.Kept.{Kept}
-use Rattle.work.specs.declared.Mark.{Mark}
 use Rattle.work.specs.declared.Run.{Run}
 use Rattle.image.specs.Calls.{Buffers, buffers}
 
 -- ---- the record
-
-abbrev pub given_of : Option Point → Given
-given_of none = Given.Nothing
-given_of (some p) = Given.At p
 
 abbrev pub plan_of : Task → Plan
 plan_of c = record {
@@ -31,7 +24,7 @@ plan_of c = record {
   room = c.room;
   tolerance = c.tolerance;
   step = c.step;
-  start = given_of c.start;
+  start = c.start;
 }
 
 abbrev pub stand_of : ℕ → State → Stand
@@ -40,9 +33,9 @@ stand_of p s = record { place = p; rs = s.field.solve.rs; norms = length s.field
 abbrev pub kept_at : Task → ℕ → Kept
 kept_at c p = record { place = p; rs = (at c p).field.solve.rs; norms = length (at c p).field.norms }
 
-abbrev pub mark_of : Task → Option ℕ → Mark
-mark_of c none = Mark.Nothing
-mark_of c (some p) = Mark.At (kept_at c p)
+abbrev pub mark_of : Task → Option ℕ → Option Kept
+mark_of c None = None
+mark_of c (Some p) = Some (kept_at c p)
 
 unfoldable pub run_of : Task → Counter → Run
 run_of c s = record { plan = plan_of c; stand = stand_of s.place (at c s.place); mark = mark_of c s.mark; passes = s.passes }
@@ -51,8 +44,8 @@ run_of c s = record { plan = plan_of c; stand = stand_of s.place (at c s.place);
 
 -- the marked place's vectors, +0 where there is no mark
 abbrev pub kept_vectors : Task → Option ℕ → List Float
-kept_vectors c none = replicate (3 * vertex_count c) plus_zero
-kept_vectors c (some p) = let s = (at c p).field.solve in s.x ++ (s.r ++ s.p)
+kept_vectors c None = replicate (3 * vertex_count c) plus_zero
+kept_vectors c (Some p) = let s = (at c p).field.solve in s.x ++ (s.r ++ s.p)
 
 -- the segments that a pass works on
 abbrev pub front_segments : Task → State → List (List Float)

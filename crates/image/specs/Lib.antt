@@ -1,4 +1,6 @@
 pub mod Accepted
+pub mod Answer
+pub mod Call
 pub mod CallLaws
 pub mod Calls
 pub mod Exits

@@ -23,7 +23,7 @@ use Rattle.work.specs.declared.Run.{Run}
 use Rattle.model.specs.Machine.{fresh, needs}
 use Rattle.image.specs.Calls.{Buffers}
 use Rattle.image.specs.CallLaws.{Enough, lacking, asked}
-use Rattle.image.specs.Image.{given_of, words_of, words_used, run_of, image, rest_of}
+use Rattle.image.specs.Image.{words_of, words_used, run_of, image, rest_of}
 use Rattle.image.specs.Shown.{lengths_of}
 
 -- ---- the plan
@@ -36,7 +36,7 @@ plan_by h = record {
   room = whole_or 0 h.settings.room;
   tolerance = real_or default_tolerance h.settings.tolerance;
   step = real_or plus_zero h.settings.step;
-  start = given_of (both_given h.settings.x h.settings.y);
+  start = both_given h.settings.x h.settings.y;
 }
 
 -- ---- items one after the other

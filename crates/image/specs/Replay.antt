@@ -7,7 +7,7 @@ use Rattle.model.specs.Task.{Task, task}
 use Rattle.model.specs.Machine.{Call, advance, back, mark, return, fresh, needs, short, Lent, Ticked}
 use Rattle.work.specs.declared.Run.{Run}
 use Rattle.work.specs.Record.{no_run}
-use Rattle.image.specs.declared.Answer.{Answer}
+use Rattle.image.specs.Answer.{Answer}
 use Rattle.image.specs.Calls.{Buffers, answered, fault, run_after, buffers_after}
 use Rattle.image.specs.Image.{run_of, image, rest_of}
 use Rattle.image.specs.Lists.{Held, front, behind, performs}

@@ -1,66 +1,104 @@
 -- Laws of the kinds of pass that the proofs share. Assumes nothing.
+use Rattle.std.specs.Prelude.{Option, Some, None}
 use mathlib.Core.Path.{◌≡◌, refl, sym, ap, ◌∙◌}
 use mathlib.Core.Logic.{inl}
-use mathlib.Core.Bool.{Bool}
-use mathlib.Core.List.{List, []}
-use Prim.Native.Nat.{ℕ, ◌+◌, ◌*◌, ◌≤◌, ◌<◌}
+use mathlib.Core.List.{List, [], ◌++◌}
+use Prim.Native.Nat.{ℕ, ◌+◌, ◌-◌, ◌*◌, ◌≤◌, ◌<◌}
 use native.Mathlib.Omega.{arith}
 use borrow.Author.Tests.{eq-eqb, ne_eqb}
 use lib.Dec.{eqb, leb}
-use lib.ListN.{length, replicate, take, take-append-drop}
+use lib.ListN.{length, replicate, take, drop, take-append-drop}
+use Rattle.std.proofs.Math.Seq.{drop-drop}
 use lib.Ieee.{Float}
 use Rattle.binary64.specs.Constants.{plus_zero}
 use Rattle.binary64.specs.Number.{pick}
 use Rattle.plane.specs.declared.Point.{Point}
-use Rattle.stretch.specs.Stretch.{splice}
-use Rattle.stretch.specs.StretchLaws.{length_part, splice_comm}
-use Rattle.sparse.specs.declared.Csr.{Csr}
+use Rattle.stretch.specs.Stretch.{part, splice}
+use Rattle.stretch.specs.StretchLaws.{length_part, length-splice, part_all, part_of_take, splice_comm, take-splice_to}
+use Rattle.sparse.specs.Sparse as Sparse
 use Rattle.sparse.specs.Stored.{matrix}
-use Rattle.sparse.specs.ProductLaws.{length-rows_of}
-use Rattle.mesh.specs.declared.Mesh.{Mesh}
+use Rattle.sparse.specs.ProductLaws.{length-rows_of, matrix_kept}
 use Rattle.mesh.specs.Element.{flat}
-use Rattle.mesh.specs.Work.{vertices_of, triangles_of, neighbours_of, tags_of, Meshed}
-use Rattle.conjugate.specs.declared.Vectors.{Vectors}
+use Rattle.mesh.specs.Mesh.{triangle_count}
+use Rattle.mesh.specs.Work.{vertices_of, triangles_of, neighbours_of, tags_of, first_at, Linked}
 use Rattle.conjugate.specs.declared.Pass.{Pass}
+use Rattle.conjugate.specs.Passes.{Passes, solve}
 use Rattle.conjugate.specs.Solver.{Solve, Turn, halted, reached, moved}
 use Rattle.conjugate.specs.SolverLaws.{Long, after, after_long}
-use Rattle.conjugate.specs.Placed as Placed
 use Rattle.conjugate.specs.Placed.{InRow, Laid, Passed, stored_after, placed}
-use Rattle.conjugate.specs.PlacedLaws.{halted_of, reached_of, moved_of}
-use Rattle.gradient.specs.Work as Gradients
-use Rattle.gradient.specs.Work.{gradients_in}
-use Rattle.pde.specs.declared.Start.{Start}
+use Rattle.conjugate.specs.PlacedLaws.{Adjoin, passed_of, halted_of, reached_of, moved_of}
+use Rattle.gradient.specs.Gradient.{gradients}
 use Rattle.pde.specs.declared.Walk.{Walk}
 use Rattle.pde.specs.declared.Crossing.{Crossing}
-use Rattle.pde.specs.Start.{triangle_containing, pick_start}
-use Rattle.pde.specs.Path.{point_floats, coordinates_of, ended, walked, added}
+use Rattle.pde.specs.declared.Field.{Field}
+use Rattle.pde.specs.Stands.{FieldStands}
+use Rattle.pde.specs.StandsLaws.{triangles_count, crossing_stands}
+use Rattle.pde.specs.Path.{point_floats, coordinates_of, ended, added}
 use Rattle.pde.specs.PathLaws.{walked_more}
-use Rattle.pde.specs.Crossing.{gradient_at, crossing}
-use Rattle.pde.specs.Work.{Fielded, field_of, gradients_of, crossing_in}
+use Rattle.pde.specs.Crossing.{gradient_at, crossing, crossing_along}
+use Rattle.pde.specs.Work.{Fielded, field_of}
 use Rattle.model.specs.Space.{factor}
 use Rattle.model.specs.Run.{rule, nowhere}
-use Rattle.work.specs.declared.Given.{Given}
 use Rattle.work.specs.declared.Gives.{Gives}
 use Rattle.work.specs.declared.Plan.{Plan}
 use Rattle.work.specs.declared.Stand.{Stand}
 use Rattle.work.specs.declared.Step.{Step}
-use Rattle.work.specs.Layout.{at_x, at_r, at_p, at_product, at_gradients, at_norms, matrix_at, mesh_at, vectors_at}
+use Rattle.work.specs.Layout.{at_x, at_r, at_p, at_product, at_gradients, at_norms, matrix_at, vectors_at}
 use Rattle.work.specs.Memory.{Stepped, vectors_in, solved_stand, solved_step, solve_step, set_out_step, walked_stand, crossed_stand, start_by, begin_step, crossing_from, crossing_of, cross_step, next_of, step_on, front_of, work, once}
-use Rattle.work.specs.Ready.{Ready, Standing, Crosses, Steps, Comes}
-use Rattle.work.specs.Kinds.{SetsOut, Searchable, Leads, gradients_put, found_in, found_by, lost_by}
+use Rattle.work.specs.Ready.{Ready, Crosses, Steps, Comes}
+use Rattle.work.specs.Kinds.{SetsOut, Searchable, Steppable, Leads, gradients_put, found_in, found_by, lost_by}
 use Rattle.work.specs.StartedLaws.{set_out-same, start_is}
 use Rattle.work.specs.StandingLaws.{turn_of, step_over}
-use Rattle.work.proofs.Laws.{pick_small, once_comes}
+use Rattle.work.proofs.Laws.{once_comes}
+use Rattle.pde.specs.declared.Entry.{Entry}
+use Rattle.kinds.specs.Found.{found_on, entry_at}
+use Rattle.kinds.specs.FoundLaws.{found_stands}
 
 -- ---- a pass of solving
 
 solve_row : (plan : Plan) (l : ℕ) → at_norms plan.n plan.t ≤ l → InRow l (vectors_at plan.n plan.t) plan.n
 solve_row plan l h = record { r_after = omega arith; p_after = omega arith; product_after = omega arith; ends = omega arith }
 
--- the vectors lie behind the matrix
-pub solve_laid : (plan : Plan) (words : List ℕ) (l : ℕ) (m : Csr) (v : Vectors) → Ready plan words → l ≡ at_norms plan.n plan.t → m ≡ matrix_at plan.n plan.t → v ≡ vectors_at plan.n plan.t
-    → Laid words l m v
-solve_laid plan words l m v r h em ev = rw (em, ev) (record { sound = r.sound; in_row = solve_row plan l (omega arith); values_fit = omega arith; values_outside = inl (omega arith) })
+-- the vectors lie behind the matrix, one right after the other
+solve_laid : (plan : Plan) (words : List ℕ) (l : ℕ) → Ready plan words → l ≡ at_norms plan.n plan.t → Laid words l (matrix_at plan.n plan.t) (vectors_at plan.n plan.t)
+solve_laid plan words l r h = record { sound = r.sound; in_row = solve_row plan l (omega arith); values_fit = omega arith; values_outside = inl (omega arith) }
+
+solve_adjoin : (n t : ℕ) → Adjoin (vectors_at n t) n
+solve_adjoin n t = record { r_at = omega arith; p_at = omega arith; product_at = omega arith }
+
+-- what stands behind the place k, and n behind that
+behind : (f : List Float) {u v : List Float} (k n m : ℕ) → u ≡ drop k f → v ≡ drop n u → m ≡ k + n → v ≡ drop m f
+behind f {u} {v} k n m eu ev em = ev ∙ ap (drop n) eu ∙ drop-drop n k f ∙ ap (λ (j : ℕ). drop j f) (sym em)
+
+first_of_behind : (f : List Float) {u v : List Float} (k n : ℕ) → u ≡ drop k f → v ≡ take n u → v ≡ part f k n
+unfolding part
+first_of_behind f k n eu ev = ev ∙ ap (take n) eu
+
+-- a pass by a matrix that stands in the buffers
+pub passes_by : (tolerance : Float) {m m' : List (List Sparse.Entry)} {u : Solve} {x r p : List Float} {answer : Pass} → m ≡ m' → Passes m flat tolerance u x r p answer → Passes m' flat tolerance u x r p answer
+passes_by tolerance e d = rw e at d
+
+-- the pass on the parts of a front, split at its vectors
+module _ (plan : Plan) (words : List ℕ) (f : List Float) (s : Stand) (h : Steppable plan words f s) where
+  pub solve_passed : {k : ℕ} {b v₀ x₀ v₁ r₀ v₂ p₀ v₃ v₄ x r p q : List Float} {answer : Pass} → k ≡ at_x plan.n plan.t → b ≡ take k f → v₀ ≡ drop k f
+      → x₀ ≡ take plan.n v₀ → v₁ ≡ drop plan.n v₀ → r₀ ≡ take plan.n v₁ → v₂ ≡ drop plan.n v₁ → p₀ ≡ take plan.n v₂ → v₃ ≡ drop plan.n v₂ → v₄ ≡ drop plan.n v₃
+      → Passes (matrix words b (matrix_at plan.n plan.t)) flat plan.tolerance (solve x₀ r₀ p₀ s.rs) x r p answer → q ≡ replicate plan.n plus_zero
+      → Passed f (b ++ (x ++ (r ++ (p ++ (q ++ v₄))))) plan.n (vectors_at plan.n plan.t) (turn_of plan words f s) answer
+  solve_passed {k} {b} {v₀} {x₀} {v₁} {r₀} {v₂} {p₀} {v₃} {v₄} {x} {r} {p} {q} {answer} ek eb e₀ ex e₁ er e₂ ep e₃ e₄ d eq =
+      let n : ℕ = plan.n in
+      let t : ℕ = plan.t in
+      let f₀ : v₀ ≡ drop (at_x n t) f = e₀ ∙ ap (λ (i : ℕ). drop i f) ek in
+      let f₁ : v₁ ≡ drop (at_r n t) f = behind f (at_x n t) n (at_r n t) f₀ e₁ (omega arith) in
+      let f₂ : v₂ ≡ drop (at_p n t) f = behind f (at_r n t) n (at_p n t) f₁ e₂ (omega arith) in
+      let f₃ : v₃ ≡ drop (at_product n t) f = behind f (at_p n t) n (at_product n t) f₂ e₃ (omega arith) in
+      let f₄ : v₄ ≡ drop (at_product n t + n) f = behind f (at_product n t) n (at_product n t + n) f₃ e₄ (omega arith) in
+      let fb : b ≡ take (at_x n t) f = eb ∙ ap (λ (i : ℕ). take i f) ek in
+      let kept : matrix words (take (at_x n t) f) (matrix_at n t) ≡ matrix words f (matrix_at n t) =
+      matrix_kept words f (take (at_x n t) f) (matrix_at n t) h.ready.sound (part_of_take f (at_x n t) (4 * n) (9 * t + n) (omega arith)) in
+      let fm : matrix words b (matrix_at n t) ≡ matrix words f (matrix_at n t) = ap (λ (z : List Float). matrix words z (matrix_at n t)) fb ∙ kept in
+      passed_of flat plan.tolerance s.rs (solve_laid plan words (length f) h.ready h.long) (solve_adjoin n t) fm
+      (first_of_behind f (at_x n t) n f₀ ex) (first_of_behind f (at_r n t) n f₁ er) (first_of_behind f (at_p n t) n f₂ ep) d
+      eq (cc (fb, f₄))
 
 -- what is left of a front, and the answer, by what the pass comes to
 module _ (plan : Plan) (f : List Float) (s : Stand) (turn : Turn) (f' : List Float) (left : f' ≡ stored_after plan.n f (vectors_at plan.n plan.t) turn) (s' : Stand) where
@@ -95,11 +133,7 @@ module _ (plan : Plan) (words : List ℕ) (f : List Float) (s : Stand) (long : l
   after_is_long : Long plan.n (after vectors turn)
   after_is_long = after_long plan.n flat (matrix words f (matrix_at plan.n plan.t)) plan.tolerance vectors (length-rows_of words f (matrix_at plan.n plan.t) plan.n) vectors_long
 
-  module _ (f' : List Float) (m : Csr) (v : Vectors) (answer : Pass) (em : m ≡ matrix_at plan.n plan.t) (ev : v ≡ vectors_at plan.n plan.t)
-      (d : Passed f f' m.rows v (Placed.turn_of words f m v flat plan.tolerance s.rs) answer) (s' : Stand) where
-    passed : Passed f f' plan.n (vectors_at plan.n plan.t) turn answer
-    passed = rw (em, ev) at d
-
+  module _ (f' : List Float) (answer : Pass) (passed : Passed f f' plan.n (vectors_at plan.n plan.t) turn answer) (s' : Stand) where
     pub solve_halted : answer ≡ Pass.Halted → s' ≡ solved_stand s s.rs s.norms 2 → Leads (solve_step plan words f s) (record { stand = s'; gives = Gives.Nothing }) f'
     unfolding solve_step
     solve_halted e es = leads_halted plan f s turn f' passed.left s' (halted_of turn (sym e ∙ passed.said)) es
@@ -116,74 +150,78 @@ module _ (plan : Plan) (words : List ℕ) (f : List Float) (s : Stand) (long : l
         let t = moved_of vectors turn rs norm (sym e ∙ passed.said) in
         leads_moved plan f s turn f' passed.left s' (after vectors turn) rs norm end t.0 t.1 after_is_long.p_long ee es
 
--- how many norms there are at most
-pub norms_few : {plan : Plan} {words : List ℕ} {s : Stand} → Ready plan words → Standing plan s → s.norms ≤ 100001
-norms_few {plan} {words} {s} r st = omega (arith, r.limit-most, st.norms_most, pick_small (eqb s.end 0))
+-- ---- the field and the gradients in a front
 
--- ---- the mesh, the field and the gradients in a front
+whole : (l : List Float) (n : ℕ) → length l ≤ n → take n l ≡ l
+unfolding part
+whole l n h = part_all l n h
 
-module _ (plan : Plan) (words : List ℕ) (f : List Float) (m : Mesh) (em : m ≡ mesh_at plan.n plan.t) (h : Searchable plan words f) where
-  pub front_meshed : Meshed f words m
-  front_meshed = rw em (record { linked = h.ready.linked; vertices_fit = omega (arith, h.long) })
+module _ (plan : Plan) (words : List ℕ) (f : List Float) (h : Searchable plan words f) where
+  pub front_fielded : (l : List Float) (u : ℕ) → u ≡ at_x plan.n plan.t → at_gradients plan.n plan.t ≤ length l → Fielded l words (first_at plan.n plan.t) u
+  front_fielded l u eu e = record { meshed = record { linked = h.ready.linked; vertices_fit = omega (arith, e) }; field_fits = omega (arith, e) }
 
-  pub front_fielded : (u : ℕ) → u ≡ at_x plan.n plan.t → Fielded f words m u
-  front_fielded u eu = let e : m.n ≡ plan.n = ap (λ (x : Mesh). x.n) em in record { meshed = front_meshed; field_fits = omega (arith, h.long) }
+  -- what stands from the gradients on
+  pub front_gradients : (at : ℕ) → at ≡ at_gradients plan.n plan.t → take (length f - at) (drop at f) ≡ part f (at_gradients plan.n plan.t) (2 * plan.t)
+  unfolding part
+  front_gradients at e = let k : length f - at ≡ 2 * plan.t = omega (arith, h.long) in rw (k, e)
 
-  pub front_graded : (at : ℕ) → at ≡ at_gradients plan.n plan.t → at + 2 * m.t ≤ length f
-  front_graded at ea = let e : m.t ≡ plan.t = ap (λ (x : Mesh). x.t) em in omega (arith, h.long)
+  pub long_gradients : length (part f (at_gradients plan.n plan.t) (2 * plan.t)) ≡ 2 * plan.t
+  long_gradients = length_part f (at_gradients plan.n plan.t) (2 * plan.t) (omega (arith, h.long))
 
-  pub front_laid : (u at : ℕ) → u ≡ at_x plan.n plan.t → at ≡ at_gradients plan.n plan.t → Gradients.Laid f words m u at
-  front_laid u at eu ea = rw (em, eu, ea) (record { meshed = rw em at front_meshed; vertices_before = omega arith; field_before = omega arith; fits = omega (arith, h.long) })
-
--- a triangle of the plan is one of the mesh
-pub triangle_in_mesh : (m : Mesh) (plan : Plan) (k : ℕ) → m ≡ mesh_at plan.n plan.t → k < plan.t → k < m.t
-triangle_in_mesh m plan k e h = rw e h
+  -- the front with the gradients of its field behind what stands before them
+  pub gradients_put_lem : {b g : List Float} {at u : ℕ} {d : Field} → at ≡ at_gradients plan.n plan.t → u ≡ at_x plan.n plan.t → b ≡ take at f → FieldStands b words (first_at plan.n plan.t) u d
+      → g ≡ gradients flat d.mesh.vertices.now d.values.now d.mesh.triangles.now → length g ≡ 2 * plan.t → b ++ g ≡ gradients_put plan words f
+  unfolding vertices_of triangles_of field_of
+  gradients_put_lem {b} {g} {at} {u} {d} ea eu eb st eg el =
+      let n : ℕ = plan.n in
+      let t : ℕ = plan.t in
+      let k : ℕ = at_gradients n t in
+      let fb : b ≡ take k f = eb ∙ ap (λ (i : ℕ). take i f) ea in
+      let vs : d.mesh.vertices.now ≡ part f 0 (2 * n) = st.mesh.vertices ∙ ap (λ (z : List Float). part z 0 (2 * n)) fb ∙ part_of_take f k 0 (2 * n) (omega arith) in
+      let us : d.values.now ≡ part f (at_x n t) n = st.values ∙ ap (λ (i : ℕ). part b i n) eu ∙ ap (λ (z : List Float). part z (at_x n t) n) fb ∙ part_of_take f k (at_x n t) n (omega arith) in
+      let gs : g ≡ gradients flat (part f 0 (2 * n)) (part f (at_x n t) n) (part words 0 (3 * t)) = eg ∙ cc (vs, us, st.mesh.triangles) in
+      let l : length (splice f k g) ≤ k + 2 * t = omega (arith, length-splice f k g, h.long) in
+      ap (λ (z : List Float). z ++ g) fb
+      ∙ sym (take-splice_to f k g (2 * t) el (omega (arith, h.long)))
+      ∙ whole (splice f k g) (k + 2 * t) l
+      ∙ ap (splice f k) gs
 
 -- ---- the start pass
 
-pub found_given : (floats : List Float) (words : List ℕ) (m : Mesh) (u : ℕ) (g : Given) (r : Start) (p : Point) → g ≡ Given.At p
-    → r ≡ triangle_containing (vertices_of floats m) (triangles_of words m) m.t p → r ≡ found_in floats words m u g
-found_given floats words m u g r p eg e = rw eg e
-
-pub found_picked : (floats : List Float) (words : List ℕ) (m : Mesh) (u : ℕ) (g : Given) (r : Start) → g ≡ Given.Nothing
-    → r ≡ pick_start (vertices_of floats m) (triangles_of words m) (neighbours_of words m) (tags_of words m) m.t (field_of floats m u) → r ≡ found_in floats words m u g
-found_picked floats words m u g r eg e = rw eg e
-
-module _ (plan : Plan) (words : List ℕ) (f : List Float) (m : Mesh) (em : m ≡ mesh_at plan.n plan.t) where
-  pub gradients_put_lem : (f' : List Float) (u at : ℕ) → u ≡ at_x plan.n plan.t → at ≡ at_gradients plan.n plan.t → f' ≡ splice f at (gradients_in flat f words m u) → f' ≡ gradients_put plan words f
-  unfolding vertices_of triangles_of
-  gradients_put_lem f' u at eu ea e = rw (em, eu, ea) at e
-
+module _ (plan : Plan) (words : List ℕ) (f : List Float) (linked : Linked words (first_at plan.n plan.t)) where
   -- the start in a front
-  found_front : (u : ℕ) (g : Given) → u ≡ at_x plan.n plan.t → found_in f words m u g ≡ found_by plan words f g
+  found_front : (g : Option Point) → found_in f words (first_at plan.n plan.t) (at_x plan.n plan.t) g ≡ found_by plan words f g
   unfolding vertices_of triangles_of neighbours_of tags_of field_of
-  found_front u (Given.At p) eu = rw em
-  found_front u Given.Nothing eu = rw (em, eu)
+  found_front (Some p) = refl
+  found_front None = refl
 
-  pub start_sets_out : (s : Stand) (u : ℕ) (found : Start) (d : Step) → u ≡ at_x plan.n plan.t → found ≡ found_in f words m u plan.start → SetsOut (set_out_step s [] (lost_by plan.start) found) d
-      → SetsOut (start_by plan words f s plan.start) d
-  start_sets_out s u found d eu ef o =
+  found_is : (u : ℕ) (d : Field) (g : Option Point) → u ≡ at_x plan.n plan.t → FieldStands f words (first_at plan.n plan.t) u d → found_on d g ≡ found_by plan words f g
+  found_is u d g eu st = found_stands u linked st g ∙ ap (λ (i : ℕ). found_in f words (first_at plan.n plan.t) i g) eu ∙ found_front g
+
+  pub start_sets_out : (s : Stand) {u : ℕ} {v : Field} {found : Option Entry} {d : Step} → u ≡ at_x plan.n plan.t → FieldStands f words (first_at plan.n plan.t) u v → found ≡ found_on v plan.start
+      → SetsOut (set_out_step s [] (lost_by plan.start) found) d → SetsOut (start_by plan words f s plan.start) d
+  start_sets_out s {u} {v} {found} {d} eu st ef o =
       let k : ℕ = lost_by plan.start in
       let same = set_out-same s [] (gradients_put plan words f) k found in
       let i : set_out_step s (gradients_put plan words f) k found ≡ start_by plan words f s plan.start =
-      ap (set_out_step s (gradients_put plan words f) k) (ef ∙ found_front u plan.start eu) ∙ sym (start_is plan words f s plan.start) in
+      ap (set_out_step s (gradients_put plan words f) k) (ef ∙ found_is u v plan.start eu st) ∙ sym (start_is plan words f s plan.start) in
       record { stand = o.stand ∙ same.0 ∙ ap (λ (x : Stepped). x.stand) i; gives = o.gives ∙ same.1 ∙ ap (λ (x : Stepped). x.gives) i }
 
-module _ (s : Stand) (given : Given) (found : Start) (s' : Stand) where
-  pub start_lost : (e : ℕ) (w : Walk) → found ≡ Start.Nothing → e ≡ lost_by given → w ≡ ended nowhere e → s' ≡ walked_stand s w 0
+module _ (s : Stand) (given : Option Point) (found : Option Entry) (s' : Stand) where
+  pub start_lost : (e : ℕ) (w : Walk) → found ≡ None → e ≡ lost_by given → w ≡ ended nowhere e → s' ≡ walked_stand s w 0
       → SetsOut (set_out_step s [] (lost_by given) found) (record { stand = s'; gives = Gives.Nothing })
   unfolding set_out_step
   start_lost e w en ee ew es = rw en (record { stand = es ∙ ap (λ (x : Walk). walked_stand s x 0) (ew ∙ ap (ended nowhere) ee); gives = refl })
 
-  pub start_found : (p : Point) (t e : ℕ) → found ≡ Start.At p t e → s' ≡ walked_stand s (record { position = p; triangle = t; edge = e; points = 1; end = 0 }) 0
-      → SetsOut (set_out_step s [] (lost_by given) found) (record { stand = s'; gives = Gives.First p })
+  pub start_found : (at : Entry) → found ≡ Some at → s' ≡ walked_stand s (record { position = at.point; triangle = at.triangle; edge = at.edge; points = 1; end = 0 }) 0
+      → SetsOut (set_out_step s [] (lost_by given) found) (record { stand = s'; gives = Gives.First at.point })
   unfolding set_out_step
-  start_found p t e ea es = rw ea (record { stand = es; gives = refl })
+  start_found at ea es = rw ea (record { stand = es; gives = refl })
 
-set_out-front : (s : Stand) (f : List Float) (k : ℕ) (st : Start) → (set_out_step s f k st).front ≡ f
+set_out-front : (s : Stand) (f : List Float) (k : ℕ) (st : Option Entry) → (set_out_step s f k st).front ≡ f
 unfolding set_out_step
-set_out-front s f k (Start.At p t e) = refl
-set_out-front s f k Start.Nothing = refl
+set_out-front s f k (Some at) = refl
+set_out-front s f k None = refl
 
 pub begin_leads : (plan : Plan) (words : List ℕ) (f : List Float) (s : Stand) (d : Step) (f' : List Float) → SetsOut (start_by plan words f s plan.start) d → f' ≡ gradients_put plan words f
     → Leads (begin_step plan words f s) d f'
@@ -196,18 +234,22 @@ begin_leads plan words f s d f' o e = record {
 
 -- ---- a crossing
 
-pub crossing-at : (plan : Plan) (words : List ℕ) (f : List Float) (u : ℕ) (g p : Point) (k e : ℕ) (m : Mesh) (r : Crossing) → m ≡ mesh_at plan.n plan.t
-    → r ≡ crossing_in f words m u rule plan.step g p k e → r ≡ crossing_in f words (mesh_at plan.n plan.t) u rule plan.step g p k e
-crossing-at plan words f u g p k e m r em is = is ∙ ap (λ (x : Mesh). crossing_in f words x u rule plan.step g p k e) em
+-- a triangle of the plan is one of the mesh
+pub triangle_in_mesh : (plan : Plan) {words : List ℕ} {f : List Float} {u : ℕ} {d : Field} (k : ℕ) → Ready plan words → FieldStands f words (first_at plan.n plan.t) u d → k < plan.t → k < triangle_count d.mesh.triangles.now
+triangle_in_mesh plan k r st h = let e = triangles_count r.linked st.mesh in omega (arith, e, h)
 
-pub crossing_is : (plan : Plan) (words : List ℕ) (f : List Float) (p : Point) (k e : ℕ) (m : Mesh) (u at : ℕ) (g : Point) (r : Crossing) → m ≡ mesh_at plan.n plan.t → u ≡ at_x plan.n plan.t
-    → at ≡ at_gradients plan.n plan.t → g ≡ gradient_at (gradients_of f m at) k → r ≡ crossing_in f words (mesh_at plan.n plan.t) u rule plan.step g p k e → r ≡ crossing_from plan words f p k e
-unfolding vertices_of triangles_of neighbours_of field_of gradients_of crossing
-crossing_is plan words f p k e m u at g r em eu ea eg is = rw (eg, em, eu, ea) at is
+pub crossing_is : (plan : Plan) (words : List ℕ) (f : List Float) (at : Entry) {u : ℕ} {d : Field} {g : Point} {gs : List Float} {r : Crossing} → Ready plan words → u ≡ at_x plan.n plan.t → FieldStands f words (first_at plan.n plan.t) u d
+    → gs ≡ part f (at_gradients plan.n plan.t) (2 * plan.t) → g ≡ gradient_at gs at.triangle
+    → r ≡ crossing_along rule d.mesh.vertices.now d.mesh.triangles.now d.mesh.neighbours.now (triangle_count d.mesh.triangles.now) d.values.now g plan.step at.point at.triangle at.edge
+    → r ≡ crossing_from plan words f at.point at.triangle at.edge
+unfolding vertices_of triangles_of neighbours_of field_of crossing
+crossing_is plan words f at {u} {d} {g} {gs} {r} ready eu st es eg is =
+    let i = is ∙ crossing_stands u ready.linked st rule plan.step g at.point at.triangle at.edge in
+    rw (eg, es, eu) at i
 
-pub crossed_is : (plan : Plan) (s : Stand) (c : Crossing) (last : Bool) (w : Walk) (s' : Stand)
-    → last ≡ eqb (s.crossings + 1) (factor * plan.t) → w ≡ walked plan.room last s.walk c → s' ≡ walked_stand s w (s.crossings + 1) → s' ≡ crossed_stand plan s c
-crossed_is plan s c last w s' el ew es = es ∙ ap (λ (x : Walk). walked_stand s x (s.crossings + 1)) (ew ∙ ap (λ (b : Bool). walked plan.room b s.walk c) el)
+-- the crossing of the path's triangle
+pub crossing_here : (plan : Plan) (words : List ℕ) (f : List Float) (s : Stand) {at : Entry} {c : Crossing} → at ≡ entry_at s.walk → c ≡ crossing_from plan words f at.point at.triangle at.edge → c ≡ crossing_of plan words f s
+crossing_here plan words f s ea ec = ec ∙ ap (λ (x : Entry). crossing_from plan words f x.point x.triangle x.edge) ea
 
 pub cross_leads : (plan : Plan) (words : List ℕ) (f : List Float) (s : Stand) (c : Crossing) (s' : Stand) → c ≡ crossing_of plan words f s → s' ≡ crossed_stand plan s c
     → Leads (cross_step plan words f s) (record { stand = s'; gives = Gives.Crossed c }) f

@@ -1,35 +1,40 @@
 // The kinds of pass on the front of the floats: solving, the start, and a crossing.
 #![tactic(auto)]
 
-ghost use Rattle.std.specs.Prelude.{◌≡◌, [], ◌+◌, ◌*◌, ◌≤◌, ◌<◌, leb, eqb};
+ghost use Rattle.std.specs.Prelude.{◌≡◌, [], ◌*◌, ◌≤◌, ◌<◌, length, replicate, leb, eqb};
+ghost use Rattle.binary64.specs.Constants.{plus_zero};
 ghost use Rattle.binary64.specs.Number.{pick};
+ghost use Rattle.sparse.specs.Stored.{matrix};
+ghost use Rattle.mesh.specs.Element.{flat};
+ghost use Rattle.mesh.specs.Mesh.{triangle_count};
+ghost use Rattle.conjugate.specs.Passes.{AsLong, Passes, solve};
+ghost use Rattle.conjugate.specs.Placed.{Passed};
 ghost use Rattle.work.specs.Memory as Memory;
-ghost use Rattle.work.specs.Ready.{Steps};
-ghost use Rattle.pde.specs.Work.{Fielded, crossing_in};
+ghost use Rattle.work.specs.Ready.{Ready, Steps};
+ghost use Rattle.pde.specs.Crossing.{crossing_along};
 ghost use Rattle.model.specs.Space.{factor};
 ghost use Rattle.model.specs.Run.{rule};
-ghost use Rattle.work.specs.Layout.{mesh_at};
-ghost use Rattle.work.specs.Kinds.{Steppable, Searchable, Grounded, Crossable, SetsOut, Leads, found_in, lost_by, gradients_put};
+ghost use Rattle.work.specs.Layout.{at_x, matrix_at, vectors_at};
+ghost use Rattle.work.specs.Kinds.{Steppable, Searchable, Crossable, SetsOut, Leads, lost_by, gradients_put};
+ghost use Rattle.work.specs.StandingLaws.{turn_of};
+ghost use Rattle.kinds.specs.Found.{found_on, entry_at};
 
 use conjugate::Pass;
-use mesh::Mesh;
-use pde::{Crossing, Rule, Start, Walk};
+use pde::{Crossing, Entry, Field, Rule, Walk};
 use plane::Point;
-use work::{Given, Gives, Plan, Run, Stand, Step, layout, place};
+use work::{Gives, Plan, Run, Stand, Step, layout, place};
 
 // The stand after a pass of solving.
 pub fn solved_stand(s: Stand, rs: f64, norms: usize, end: usize) -> Stand
     requires { s.place < 1000000 }
     ensures { result ≡ Memory.solved_stand s rs norms end }
 {
-    let walk = s.walk;
     Stand {
         place: s.place + 1,
         rs,
         norms,
         end,
-        walk,
-        crossings: s.crossings,
+        ..s
     }
 }
 
@@ -40,37 +45,62 @@ pub fn limit_end(limit: usize, norms: usize) -> usize
     if limit <= norms { 3 } else { 0 }
 }
 
+// One pass on vectors of their own, by the matrix that stands in `before`. Apart from the split of the front, since the check does not follow vectors that are split four times beside a struct of another buffer.
+fn pass_on(
+    before: &[f64],
+    words: &[u32],
+    plan: Plan,
+    x: &mut [f64],
+    r: &mut [f64],
+    p: &mut [f64],
+    product: &mut [f64],
+    rs: f64,
+) -> Pass
+    requires { Ready plan words.now × (at_x plan.n plan.t ≤ length before.now) × AsLong plan.n x.old r.old p.old × (length product.old ≡ plan.n) }
+    ensures passed { Passes (matrix words.now before.now (matrix_at plan.n plan.t)) flat plan.tolerance (solve x.old r.old p.old rs) x.new r.new p.new result }
+    ensures cleared { product.new ≡ replicate plan.n plus_zero }
+{
+    let a = layout::matrix(before, words, plan.n, plan.t);
+    conjugate::one_pass(&a, x, r, p, product, Run::TINY, plan.tolerance, rs)
+}
+
+// One pass on the vectors of the front.
+fn solve_once(front: &mut [f64], words: &[u32], plan: Plan, stand: Stand) -> Pass
+    requires { Steppable plan words.now front.old stand }
+    ensures { Passed front.old front.new plan.n (vectors_at plan.n plan.t) (turn_of plan words.now front.old stand) result }
+{
+    let n = plan.n;
+    let (before, vectors) = front.split_at_mut(layout::at_x(n, plan.t));
+    let (x, vectors) = vectors.split_at_mut(n);
+    let (r, vectors) = vectors.split_at_mut(n);
+    let (p, vectors) = vectors.split_at_mut(n);
+    let (product, _) = vectors.split_at_mut(n);
+    pass_on(before, words, plan, x, r, p, product, stand.rs)
+}
+
 // A pass of solving.
 fn solve_step(front: &mut [f64], words: &[u32], plan: Plan, stand: Stand) -> Step
     requires { Steppable plan words.now front.old stand }
     ensures { Leads (Memory.solve_step plan words.now front.old stand) result front.new }
 {
-    let m = layout::matrix_at(plan.n, plan.t);
-    let at = layout::vectors_at(plan.n, plan.t);
-    let turn = conjugate::one_pass(front, words, m, at, Run::TINY, plan.tolerance, stand.rs);
-    match turn {
-        Pass::Halted => {
-            let s = solved_stand(stand, stand.rs, stand.norms, 2);
-            Step {
-                stand: s,
-                gives: Gives::Nothing,
-            }
-        }
-        Pass::Reached(norm) => {
-            let s = solved_stand(stand, stand.rs, stand.norms + 1, 1);
-            Step {
-                stand: s,
-                gives: Gives::Norm(norm),
-            }
-        }
-        Pass::Moved(rs, norm) => {
-            let end = limit_end(plan.limit, stand.norms);
-            let s = solved_stand(stand, rs, stand.norms + 1, end);
-            Step {
-                stand: s,
-                gives: Gives::Norm(norm),
-            }
-        }
+    match solve_once(front, words, plan, stand) {
+        Pass::Halted => Step {
+            stand: solved_stand(stand, stand.rs, stand.norms, 2),
+            gives: Gives::Nothing,
+        },
+        Pass::Reached(norm) => Step {
+            stand: solved_stand(stand, stand.rs, stand.norms + 1, 1),
+            gives: Gives::Norm(norm),
+        },
+        Pass::Moved(rs, norm) => Step {
+            stand: solved_stand(
+                stand,
+                rs,
+                stand.norms + 1,
+                limit_end(plan.limit, stand.norms),
+            ),
+            gives: Gives::Norm(norm),
+        },
     }
 }
 
@@ -81,30 +111,29 @@ fn fill_gradients(front: &mut [f64], words: &[u32], plan: Plan)
     requires { Searchable plan words.now front.old }
     ensures { front.new ≡ gradients_put plan words.now front.old }
 {
-    let m = layout::mesh_at(plan.n, plan.t);
+    let (before, gradients) = front.split_at_mut(layout::at_gradients(plan.n, plan.t));
     let u = layout::at_x(plan.n, plan.t);
-    let at = layout::at_gradients(plan.n, plan.t);
-    gradient::compute_gradient_field(front, words, m, u, at, Run::TINY);
+    let field = Field::of(before, words, plan.n, plan.t, u);
+    gradient::compute_gradient_field(&field.mesh, field.values, Run::TINY, gradients);
 }
 
 // A given start lies in the first triangle that accepts it; otherwise a start is picked.
-pub fn find_start(floats: &[f64], words: &[u32], m: Mesh, u: usize, given: Given) -> Start
-    requires { Fielded floats.now words.now m u }
-    ensures { result ≡ found_in floats.now words.now m u given }
+pub fn find_start(field: &Field, given: Option<Point>) -> Option<Entry>
+    ensures { result ≡ found_on field.now given }
 {
     match given {
-        Given::At(p) => starts::find_triangle_containing(floats, words, m, p),
-        Given::Nothing => starts::pick_start(floats, words, m, u),
+        Some(p) => starts::find_triangle_containing(&field.mesh, p),
+        None => starts::pick_start(field),
     }
 }
 
 // The path's end where no start is found.
-fn lost_end(given: Given) -> usize
+fn lost_end(given: Option<Point>) -> usize
     ensures { result ≡ lost_by given }
 {
     match given {
-        Given::At(_) => 8,
-        Given::Nothing => 9,
+        Some(_) => 8,
+        None => 9,
     }
 }
 
@@ -113,40 +142,35 @@ fn walked_stand(s: Stand, walk: Walk, crossings: usize) -> Stand
     requires { s.place < 1000000 }
     ensures { result ≡ Memory.walked_stand s walk crossings }
 {
-    let place = s.place + 1;
     Stand {
-        place,
-        rs: s.rs,
-        norms: s.norms,
-        end: s.end,
+        place: s.place + 1,
         walk,
         crossings,
+        ..s
     }
 }
 
 // The first point at the start that is found, or an end where none is; what is left of the front is not told.
-pub fn set_out(stand: Stand, given: Given, found: Start) -> Step
+pub fn set_out(stand: Stand, given: Option<Point>, found: Option<Entry>) -> Step
     requires { stand.place < 1000000 }
     ensures { SetsOut (Memory.set_out_step stand [] (lost_by given) found) result }
 {
-    let Start::At(p, t, e) = found else {
-        let s = walked_stand(stand, place::lost(lost_end(given)), 0);
+    let Some(entry) = found else {
         return Step {
-            stand: s,
+            stand: walked_stand(stand, place::lost(lost_end(given)), 0),
             gives: Gives::Nothing,
         };
     };
     let walk = Walk {
-        position: p,
-        triangle: t,
-        edge: e,
+        position: entry.point,
+        triangle: entry.triangle,
+        edge: entry.edge,
         points: 1,
         end: 0,
     };
-    let s = walked_stand(stand, walk, 0);
     Step {
-        stand: s,
-        gives: Gives::First(p),
+        stand: walked_stand(stand, walk, 0),
+        gives: Gives::First(entry.point),
     }
 }
 
@@ -155,11 +179,9 @@ pub fn start_step(front: &[f64], words: &[u32], plan: Plan, stand: Stand) -> Ste
     requires { Searchable plan words.now front.now × (stand.place < 1000000) }
     ensures { SetsOut (Memory.start_by plan words.now front.now stand plan.start) result }
 {
-    let m = layout::mesh_at(plan.n, plan.t);
     let u = layout::at_x(plan.n, plan.t);
-    let given = plan.start;
-    let found = find_start(front, words, m, u, given);
-    set_out(stand, given, found)
+    let field = Field::of(front, words, plan.n, plan.t, u);
+    set_out(stand, plan.start, find_start(&field, plan.start))
 }
 
 // The pass after solving: the gradients, and the first point or an end.
@@ -174,48 +196,42 @@ fn begin_step(front: &mut [f64], words: &[u32], plan: Plan, stand: Stand) -> Ste
 
 // ---- a crossing
 
-// What crossing a triangle from a point, entered by an edge, comes to, by the triangle's gradient: the vertices stand first in the floats, and the field from u on.
-pub fn crossing_by(
-    floats: &[f64],
-    words: &[u32],
-    plan: Plan,
-    u: usize,
-    g: Point,
-    from: Point,
-    triangle: usize,
-    edge: usize,
-) -> Crossing
-    requires { Grounded plan words.now floats.now u × (triangle < plan.t) }
-    ensures { result ≡ crossing_in floats.now words.now (mesh_at plan.n plan.t) u rule plan.step g from triangle edge }
+// The thresholds of a crossing.
+const RULE: Rule = Rule {
+    dull: Run::DULL,
+    above: Run::ABOVE,
+    spacing: Run::SPACING,
+};
+
+// Where the path stands in its triangle.
+pub fn entry_of(walk: Walk) -> Entry
+    ensures { result ≡ entry_at walk }
 {
-    let m = layout::mesh_at(plan.n, plan.t);
-    let rule = Rule {
-        dull: Run::DULL,
-        above: Run::ABOVE,
-        spacing: Run::SPACING,
-    };
-    pde::cross::crossing(
-        floats, words, m, u, rule, plan.step, g, from, triangle, edge,
-    )
+    Entry {
+        point: walk.position,
+        triangle: walk.triangle,
+        edge: walk.edge,
+    }
 }
 
-// What crossing a triangle from a point, entered by an edge, comes to.
-pub fn crossing_of(
-    front: &[f64],
-    words: &[u32],
-    plan: Plan,
-    from: Point,
-    triangle: usize,
-    edge: usize,
-) -> Crossing
-    requires { Searchable plan words.now front.now × (triangle < plan.t) }
-    ensures { result ≡ Memory.crossing_from plan words.now front.now from triangle edge }
+// What crossing a triangle from an entry comes to, by the triangle's gradient.
+pub fn crossing_by(field: &Field, plan: Plan, g: Point, entry: Entry) -> Crossing
+    requires { entry.triangle < triangle_count field.now.mesh.triangles.now }
+    ensures { result ≡ crossing_along rule field.now.mesh.vertices.now field.now.mesh.triangles.now field.now.mesh.neighbours.now (triangle_count field.now.mesh.triangles.now) field.now.values.now g plan.step entry.point entry.triangle entry.edge }
 {
-    let m = layout::mesh_at(plan.n, plan.t);
+    field.crossing(RULE, plan.step, g, entry)
+}
+
+// What crossing a triangle from an entry comes to.
+pub fn crossing_of(front: &[f64], words: &[u32], plan: Plan, entry: Entry) -> Crossing
+    requires { Searchable plan words.now front.now × (entry.triangle < plan.t) }
+    ensures { result ≡ Memory.crossing_from plan words.now front.now entry.point entry.triangle entry.edge }
+{
     let u = layout::at_x(plan.n, plan.t);
+    let field = Field::of(front, words, plan.n, plan.t, u);
     let at = layout::at_gradients(plan.n, plan.t);
-    let g = pde::cross::gradient_at(front, m, at, triangle);
-    crossing_by(front, words, plan, u, g, from, triangle, edge)
+    let g = pde::cross::gradient_at(&front[at..], entry.triangle);
+    crossing_by(&field, plan, g, entry)
 }
 
 // Which crossing is the last of all.
@@ -233,9 +249,11 @@ pub fn crossed(plan: Plan, stand: Stand, c: Crossing) -> Stand
 {
     let made = stand.crossings + 1;
     let last = is_last(made, plan.t);
-    let walk = stand.walk;
-    let next = tracing::path::after(plan.room, last, walk, c);
-    walked_stand(stand, next, made)
+    walked_stand(
+        stand,
+        tracing::path::after(plan.room, last, stand.walk, c),
+        made,
+    )
 }
 
 // A crossing of the path's triangle.
@@ -243,12 +261,9 @@ fn cross_step(front: &[f64], words: &[u32], plan: Plan, stand: Stand) -> Step
     requires { Crossable plan words.now front.now stand }
     ensures { Leads (Memory.cross_step plan words.now front.now stand) result front.now }
 {
-    let walk = stand.walk;
-    let from = walk.position;
-    let c = crossing_of(front, words, plan, from, walk.triangle, walk.edge);
-    let s = crossed(plan, stand, c);
+    let c = crossing_of(front, words, plan, entry_of(stand.walk));
     Step {
-        stand: s,
+        stand: crossed(plan, stand, c),
         gives: Gives::Crossed(c),
     }
 }

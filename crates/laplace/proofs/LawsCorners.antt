@@ -1,21 +1,19 @@
 -- Laws of heads and links, and the scan that makes them: from the last corner to the first. Assumes nothing.
-use Prim.Native.Nat.{ℕ, zero, suc, ◌+◌, ◌-◌, ◌*◌, ◌≤◌, ◌<◌}
-use native.Mathlib.Nat.{add-suc, add-zero}
+use Prim.Native.Nat.{ℕ, zero, suc, ◌+◌, ◌-◌, ◌≤◌, ◌<◌}
+use native.Mathlib.Nat.{add-zero}
 use native.Mathlib.Numerals.{add-one}
 use native.Mathlib.Omega.{arith}
 use mathlib.Core.Path.{◌≡◌, refl, sym, ap, ◌∙◌}
 use mathlib.Core.Bool.{Bool, true, false}
 use mathlib.Core.List.{List, [], ◌∷◌, ◌++◌}
 use lib.Dec.{eqb}
-use lib.ListN.{length, get_or, set, drop, replicate, length-append, length-set, length-replicate, replicate-append-replicate, get_or-append, drop_of_length-le}
+use lib.ListN.{length, get_or, set, drop, replicate, length-append, length-set, replicate-append-replicate, get_or-append, drop_of_length-le}
 use lib.Seq.{drop-cons, ext_get_or, get_or_at, get_or-set_same, get_or-set_other}
 use borrow.Author.Tests.{eqb-true, eqb-false}
 use Rattle.binary64.specs.Number.{pick}
-use Rattle.stretch.specs.Stretch.{part, splice}
-use Rattle.stretch.specs.StretchLaws.{length_part, get_d_part, length-splice, splice_cons, splice_nil, splice-splice-same, get_or-splice-before, get_or-splice-at, set-splice-before, set-splice_in, part_splice-before}
-use Rattle.laplace.specs.declared.Places.{Places}
+use Rattle.stretch.specs.Stretch.{splice}
+use Rattle.stretch.specs.StretchLaws.{splice_cons, splice_nil, splice_all}
 use Rattle.laplace.specs.Matrix.{AllBelow}
-use Rattle.laplace.specs.Laid.{Few, LaidWords}
 use Rattle.laplace.specs.Corners.{first_from, heads_from, links_from}
 
 -- ---- each number of a list is below n
@@ -80,111 +78,33 @@ heads_cons k t ts n h =
 
 -- ---- the scan
 
--- corners, heads and links lie in a row in w
-pub record Linkable (w : List ℕ) (n t triangles heads links : ℕ) : Type 0 where
-  pub few : Few n t
-  pub before_heads : triangles + 3 * t ≤ heads
-  pub before_links : heads + n ≤ links
-  pub fits : links + 3 * t ≤ length w
-  pub corners : AllBelow n (part w triangles (3 * t))
+-- corner c - 1 put in front of those after it
+pub scan_heads : (ts hs : List ℕ) (n c : ℕ) → AllBelow n ts → 0 < c → c ≤ length ts → hs ≡ heads_from c (drop c ts) n
+    → set hs (get_or ts (c - 1) 0) (c - 1 + 1) ≡ heads_from (c - 1) (drop (c - 1) ts) n
+scan_heads ts hs n zero b p h e = absurd (omega arith)
+scan_heads ts hs n (suc k) b p h e =
+    let q : suc k - 1 ≡ k = omega arith in
+    let v = get_or ts k 0 in
+    rw (q, add-one k, e, drop-cons ts k 0 h) (heads_cons k v (drop (suc k) ts) n (below_at n ts k b h))
 
--- w after the scan has come down to corner k
-pub record Linking (w₀ w : List ℕ) (n t triangles heads links k : ℕ) : Type 0 where
-  pub within : k ≤ 3 * t
-  pub long : length w ≡ length w₀
-  pub is : w ≡ splice (splice w₀ heads (heads_from k (drop k (part w₀ triangles (3 * t))) n)) (links + k) (links_from k (drop k (part w₀ triangles (3 * t))))
-
-module _ (w₀ w : List ℕ) (n t triangles heads links : ℕ) (b : Linkable w₀ n t triangles heads links) where
-  corners_length : length (part w₀ triangles (3 * t)) ≡ 3 * t
-  corners_length = length_part w₀ triangles (3 * t) (omega arith)
-
-  -- the corner that is read next, and the head of a vertex
-  corner-read : (k : ℕ) → Linking w₀ w n t triangles heads links (suc k) → get_or w (triangles + k) 0 ≡ get_or (part w₀ triangles (3 * t)) k 0
-  corner-read k l =
-      let ts = part w₀ triangles (3 * t) in
-      let hs = heads_from (suc k) (drop (suc k) ts) n in
-      ap (λ (x : List ℕ). get_or x (triangles + k) 0) l.is
-      ∙ get_or-splice-before (splice w₀ heads hs) (links + suc k) (links_from (suc k) (drop (suc k) ts)) (triangles + k) 0 (omega (arith, l.within))
-      ∙ get_or-splice-before w₀ heads hs (triangles + k) 0 (omega (arith, l.within))
-      ∙ sym (get_d_part w₀ triangles (3 * t) k 0 (omega (arith, l.within)))
-
-  corner_below : (k : ℕ) → Linking w₀ w n t triangles heads links (suc k) → get_or w (triangles + k) 0 < n
-  corner_below k l = rw (corner-read k l) (below_at n (part w₀ triangles (3 * t)) k b.corners (omega (arith, l.within, corners_length)))
-
-  head_read : (k v : ℕ) → v < n → Linking w₀ w n t triangles heads links (suc k) → get_or w (heads + v) 0 ≡ first_from (suc k) v (drop (suc k) (part w₀ triangles (3 * t)))
-  head_read k v h l =
-      let ts = part w₀ triangles (3 * t) in
-      let hs = heads_from (suc k) (drop (suc k) ts) n in
-      let e : length hs ≡ n = length_heads (suc k) (drop (suc k) ts) n in
-      ap (λ (x : List ℕ). get_or x (heads + v) 0) l.is
-      ∙ get_or-splice-before (splice w₀ heads hs) (links + suc k) (links_from (suc k) (drop (suc k) ts)) (heads + v) 0 (omega arith)
-      ∙ get_or-splice-at w₀ heads hs v 0 (omega arith) (omega arith)
-      ∙ get_or_heads (suc k) (drop (suc k) ts) n v h
-
-  -- a turn
-  scanned : (k : ℕ) → Linking w₀ w n t triangles heads links (suc k)
-      → Linking w₀ (set (set w (links + k) (get_or w (heads + get_or w (triangles + k) 0) 0)) (heads + get_or w (triangles + k) 0) (suc k)) n t triangles heads links k
-  unfolding links_from
-  scanned k l =
-      let ts = part w₀ triangles (3 * t) in
-      let v = get_or ts k 0 in
-      let d = drop (suc k) ts in
-      let hs = heads_from (suc k) d n in
-      let f = first_from (suc k) v d in
-      let kl : k < length ts = omega (arith, l.within, corners_length) in
-      let vn : v < n = below_at n ts k b.corners kl in
-      let lh : length hs ≡ n = length_heads (suc k) d n in
-      let e : set w (links + k) f ≡ splice (splice w₀ heads hs) (links + k) (f ∷ links_from (suc k) d) =
-      ap (λ (x : List ℕ). set x (links + k) f) (l.is ∙ ap (λ (i : ℕ). splice (splice w₀ heads hs) i (links_from (suc k) d)) (add-suc links k)) ∙ sym (splice_cons (splice w₀ heads hs) (links + k) f (links_from (suc k) d)) in
-      record {
-        within = omega (arith, l.within);
-        long = simp length-set l.long;
-        is =
-            rw (corner-read k l, head_read k v vn l, e, drop-cons ts k 0 kl)
-            (set-splice-before (splice w₀ heads hs) (links + k) (f ∷ links_from (suc k) d) (heads + v) (suc k) (omega arith)
-            ∙ ap (λ (x : List ℕ). splice x (links + k) (f ∷ links_from (suc k) d)) (set-splice_in w₀ heads hs v (suc k) (omega arith) ∙ ap (λ (x : List ℕ). splice w₀ heads x) (heads_cons k v d n vn)));
-      }
-
-  pub next_below : (k : ℕ) → 0 < k → Linking w₀ w n t triangles heads links k → get_or w (triangles + (k - 1)) 0 < n
-  next_below zero h l = absurd (omega arith)
-  next_below (suc k) h l = let e : suc k - 1 ≡ k = omega arith in rw e (corner_below k l)
-
-  pub scan_again : (k : ℕ) → 0 < k → Linking w₀ w n t triangles heads links k
-      → Linking w₀ (set (set w (links + (k - 1)) (get_or w (heads + get_or w (triangles + (k - 1)) 0) 0)) (heads + get_or w (triangles + (k - 1)) 0) k) n t triangles heads links (k - 1)
-  scan_again zero h l = absurd (omega arith)
-  scan_again (suc k) h l = let e : suc k - 1 ≡ k = omega arith in rw e (scanned k l)
-
--- before the first turn and after the last; w is the buffer at entry
-pub scan_none : (w w₀ : List ℕ) (n t : ℕ) (at : Places) → LaidWords w n t at → w₀ ≡ splice w at.heads (replicate n 0)
-    → Linkable w₀ n t at.triangles at.heads at.links × Linking w₀ w₀ n t at.triangles at.heads at.links (3 * t)
+pub scan_links : (ts hs l₀ l : List ℕ) (n c : ℕ) → AllBelow n ts → 0 < c → c ≤ length ts → hs ≡ heads_from c (drop c ts) n → l ≡ splice l₀ c (links_from c (drop c ts))
+    → set l (c - 1) (get_or hs (get_or ts (c - 1) 0) 0) ≡ splice l₀ (c - 1) (links_from (c - 1) (drop (c - 1) ts))
 unfolding links_from
-scan_none w w₀ n t at b p =
-    let z : List ℕ = replicate n 0 in
-    let lz : length z ≡ n = length-replicate n 0 in
-    let lw : length w₀ ≡ length w = ap length p ∙ length-splice w at.heads z in
-    let s : part w₀ at.triangles (3 * t) ≡ part w at.triangles (3 * t) =
-    ap (λ (x : List ℕ). part x at.triangles (3 * t)) p ∙ part_splice-before w at.heads z at.triangles (3 * t) (omega arith) in
-    let ls : length (part w₀ at.triangles (3 * t)) ≡ 3 * t = length_part w₀ at.triangles (3 * t) (omega arith) in
-    let d : drop (3 * t) (part w₀ at.triangles (3 * t)) ≡ [] = drop_of_length-le (part w₀ at.triangles (3 * t)) {i = 3 * t} (omega arith) in (
-      record { few = b.few; before_heads = omega arith; before_links = omega arith; fits = omega arith; corners = rw s b.corners },
-      record {
-        within = omega arith;
-        long = refl;
-        is = rw (d, splice_nil, heads_none (3 * t) n, p) (sym (splice-splice-same w at.heads z z refl));
-      },
-    )
+scan_links ts hs l₀ l n zero b p h e g = absurd (omega arith)
+scan_links ts hs l₀ l n (suc k) b p h e g =
+    let q : suc k - 1 ≡ k = omega arith in
+    let v = get_or ts k 0 in
+    let d = drop (suc k) ts in
+    rw (q, e, g, drop-cons ts k 0 h, get_or_heads (suc k) d n v (below_at n ts k b h)) (sym (splice_cons l₀ k (first_from (suc k) v d) (links_from (suc k) d)))
 
-pub scan_done : (w w₀ l : List ℕ) (n t : ℕ) (at : Places) (k : ℕ) → k ≡ 0 → LaidWords w n t at → w₀ ≡ splice w at.heads (replicate n 0)
-    → Linking w₀ l n t at.triangles at.heads at.links k
-    → l ≡ splice (splice w at.heads (heads_from 0 (part w at.triangles (3 * t)) n)) at.links (links_from 0 (part w at.triangles (3 * t)))
-scan_done w w₀ l n t at k e b p s =
-    let z : List ℕ = replicate n 0 in
-    let lz : length z ≡ n = length-replicate n 0 in
-    let ts = part w at.triangles (3 * t) in
-    let hs = heads_from 0 ts n in
-    let q : part w₀ at.triangles (3 * t) ≡ ts =
-    ap (λ (x : List ℕ). part x at.triangles (3 * t)) p ∙ part_splice-before w at.heads z at.triangles (3 * t) (omega arith) in
-    let r : splice w₀ at.heads hs ≡ splice w at.heads hs =
-    ap (λ (x : List ℕ). splice x at.heads hs) p ∙ splice-splice-same w at.heads z hs (lz ∙ sym (length_heads 0 ts n)) in
-    let m = rw (e, q, add-zero, r) at s.is in
-    m
+-- before the first turn
+pub scan_none : (ts : List ℕ) (n k : ℕ) → length ts ≤ k → heads_from k (drop k ts) n ≡ replicate n 0
+scan_none ts n k h = rw (drop_of_length-le ts {i = k} h) (heads_none k n)
+
+pub scan-no_links : (ts l : List ℕ) (k : ℕ) → length ts ≤ k → splice l k (links_from k (drop k ts)) ≡ l
+unfolding links_from
+scan-no_links ts l k h = rw (drop_of_length-le ts {i = k} h) (splice_nil l k)
+
+-- after the last
+pub scan_done : (ts l : List ℕ) → length l ≡ length ts → splice l 0 (links_from 0 (drop 0 ts)) ≡ links_from 0 ts
+scan_done ts l h = splice_all l (links_from 0 ts) (length_links 0 ts ∙ sym h)

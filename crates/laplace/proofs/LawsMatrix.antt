@@ -1,202 +1,141 @@
 -- A row put behind those before it, and all rows. Assumes nothing.
-use Prim.Native.Nat.{ℕ, suc, ◌+◌, ◌-◌, ◌*◌, ◌≤◌, ◌<◌}
+use Prim.Native.Nat.{ℕ, suc, ◌+◌, ◌≤◌, ◌<◌}
 use native.Mathlib.Numerals.{add-one}
 use native.Mathlib.Omega.{arith}
 use mathlib.Core.Path.{◌≡◌, refl, sym, ap, ◌∙◌}
-use mathlib.Core.Logic.{inl, inr}
 use mathlib.Core.List.{List, [], ◌∷◌, ◌++◌}
 use lib.Ieee.{Float}
-use lib.ListN.{length, get_or, set, length-set}
-use lib.Seq.{set-get_or}
+use lib.ListN.{length, set, take, replicate, length-replicate}
 use Rattle.binary64.specs.Constants.{plus_zero}
-use Rattle.stretch.specs.Stretch.{part, splice}
-use Rattle.stretch.specs.StretchLaws.{length_part, length-splice, part_zero, splice_nil, splice-one, splice-append, splice_snoc, set-splice-before, part_splice-before, part_splice-after, get_or-splice-before, get_or-splice-at}
+use Rattle.stretch.specs.Stretch.{splice}
+use Rattle.stretch.specs.StretchLaws.{length-splice, splice_nil, splice-one, splice-append, splice_snoc, splice-splice-same, splice-replicate}
 use Rattle.sparse.specs.Sparse.{Entry, entries}
-use Rattle.laplace.specs.declared.Places.{Places}
-use Rattle.laplace.specs.Assembly.{pushes, row, rows}
-use Rattle.laplace.specs.Matrix.{AllBelow, row_rising, row_below, pushes_below, count, count-append, few_entries}
+use Rattle.laplace.specs.declared.element.Elements.{Elements}
+use Rattle.laplace.specs.Assembly.{rows}
+use Rattle.laplace.specs.Matrix.{row_rising, row_below, pushes_below, count, count-append, few_entries}
+use Rattle.laplace.specs.Elements.{IsMesh, pushes_of}
 use Rattle.laplace.specs.Placed.{values_in, columns_in, values_of, columns_of, starts_from}
-use Rattle.laplace.specs.Row.{Written, vertices_in, corners_in, tags_in, Tidy, Building}
-use Rattle.laplace.specs.Whole.{pushes_in, row_for, rows_for, Appends, Appended, Ready, RowPut, RowsPut}
-use Rattle.laplace.proofs.LawsInsert.{length_values, length_columns}
+use Rattle.laplace.specs.Row.{Written, Tidy, Building}
+use Rattle.laplace.specs.Rows.{row_of, rows_of, room_of, Appends, Ready, RowPut, RowsPut}
+use Rattle.laplace.proofs.LawsInsert.{take-splice_front, length_values, length_columns}
 use Rattle.laplace.proofs.LawsRow.{tidy_none, building_on}
-use Rattle.laplace.proofs.LawsPlaced.{length-values_of, length-columns_of, length_starts, starts_head, length-rows, values_snoc, columns_snoc, starts_snoc, passed_through}
+use Rattle.laplace.proofs.LawsPlaced.{length-values_of, length-columns_of, length_starts, length-rows, values_snoc, columns_snoc, starts_snoc}
+
+module _ {A : Type 0} where
+  -- a row that is written to and cleared again
+  cleared : (n k : ℕ) (z : A) (l new : List A) → l ≡ replicate n z → length new ≡ k → splice (splice l 0 new) 0 (replicate k z) ≡ l
+  cleared n k z l new e h = splice-splice-same l 0 new (replicate k z) (h ∙ sym (length-replicate k z)) ∙ rw e (splice-replicate n z 0 k)
 
 -- ---- one row
 
-tidy_row : (n : ℕ) (tags : List ℕ) (flat : Float) (vs : List Float) (ts : List ℕ) (r : ℕ) → r < n → AllBelow n ts → Tidy n (row tags (pushes flat vs ts) r)
-tidy_row n tags flat vs ts r h b = record { rising = row_rising tags (pushes flat vs ts) r; below = row_below n tags (pushes flat vs ts) r h (pushes_below n flat vs ts b) }
-
-module _ (f : List Float) (w : List ℕ) (n t : ℕ) (at : Places) (y : Ready f w n t at) where
-  pub row_starts : Building f w n t at 0
+module _ (m : Elements) (heads links : List ℕ) (v : List Float) (c starts cols : List ℕ) (values : List Float) (y : Ready m heads links v c starts cols values) where
+  pub row_starts : Building m v c 0
   unfolding entries
-  row_starts = record { floats_laid = y.floats_laid; words_laid = y.words_laid; within = omega arith; tidy = rw (part_zero w at.rowcols) (tidy_none n) }
+  row_starts =
+      record {
+        mesh = y.mesh;
+        values_long = ap length y.row_clear ∙ length-replicate (length m.tags.now) plus_zero;
+        cols_long = ap length y.columns_clear ∙ length-replicate (length m.tags.now) 0;
+        within = omega arith;
+        tidy = tidy_none (length m.tags.now);
+      }
 
-  module _ (flat : Float) (r count : ℕ) (h : r < n) (m : count + length (row_for flat f w n t at r) ≤ 9 * t + n) (f₁ : List Float) (w₁ : List ℕ) (k : ℕ)
-      (a : Written f w f₁ w₁ at.row at.rowcols k (row_for flat f w n t at r)) where
-    pub row_appends : Appends f₁ w₁ n t at k count
+  module _ (r before : ℕ) (h : r < length m.tags.now) (g : before + length (row_of m r) ≤ room_of m) (v' : List Float) (c' : List ℕ) (k : ℕ) (a : Written v c v' c' k (row_of m r)) where
+    tidy_row : Tidy (length m.tags.now) (row_of m r)
+    tidy_row =
+        record {
+          rising = row_rising m.tags.now (pushes_of m) r;
+          below = row_below (length m.tags.now) m.tags.now (pushes_of m) r h (pushes_below (length m.tags.now) m.flat m.vertices.now m.triangles.now y.mesh.corners);
+        }
+
+    built : Building m v' c' k
+    built = building_on m v c 0 row_starts v' c' k (row_of m r) a tidy_row
+
+    pub row_appends : Appends (length v') (length c') (length values) (length cols) k before
     row_appends =
-        let b = building_on f w n t at 0 row_starts f₁ w₁ k (row_for flat f w n t at r) a (tidy_row n (tags_in w n at) flat (vertices_in f n at) (corners_in w t at) r h y.words_laid.corners) in
-        record { floats_laid = b.floats_laid; words_laid = b.words_laid; within = b.within; room = omega (arith, a.count) }
+        record {
+          row_within = omega (arith, built.within, built.values_long);
+          cols_within = omega (arith, built.within, built.cols_long);
+          room = omega (arith, y.values_long, a.count);
+          cols_room = omega (arith, y.cols_long, a.count);
+        }
 
-    pub row_put : (f₂ : List Float) (w₂ : List ℕ) → Appended f₁ w₁ f₂ w₂ at k count
-        → RowPut f w f₂ (set w₂ (at.starts + r + 1) (count + k)) at r count (count + k) (row_for flat f w n t at r)
-    row_put f₂ w₂ p =
-        let es = row_for flat f w n t at r in
-        let lk : k ≤ n = row_appends.within in
-        let lv : length (values_in es) ≡ k = length_values es ∙ sym a.count in
-        let lc : length (columns_in es) ≡ k = length_columns es ∙ sym a.count in
-        let v : f₂ ≡ splice f (at.values + count) (values_in es) =
-        rw a.values at p.values ∙ passed_through f at.row n k (at.values + count) (values_in es) plus_zero lv lk (omega (arith, y.floats_laid)) y.values_clear (inl (omega (arith, y.floats_laid))) in
-        let c : w₂ ≡ splice w (at.cols + count) (columns_in es) =
-        rw a.columns at p.columns ∙ passed_through w at.rowcols n k (at.cols + count) (columns_in es) 0 lc lk (omega (arith, y.words_laid)) y.columns_clear (inr (omega (arith, y.words_laid, a.count))) in
-        record { total = ap (λ (x : ℕ). count + x) a.count; values = v; columns = rw (c, ← a.count) }
+    values_are : length (values_in (row_of m r)) ≡ k
+    values_are = length_values (row_of m r) ∙ sym a.count
+
+    columns_are : length (columns_in (row_of m r)) ≡ k
+    columns_are = length_columns (row_of m r) ∙ sym a.count
+
+    -- the row is clear again
+    pub row_cleared : (splice v' 0 (replicate k plus_zero) ≡ v) × (splice c' 0 (replicate k 0) ≡ c)
+    row_cleared = (
+      rw a.values (cleared (length m.tags.now) k plus_zero v (values_in (row_of m r)) y.row_clear values_are),
+      rw a.columns (cleared (length m.tags.now) k 0 c (columns_in (row_of m r)) y.columns_clear columns_are),
+    )
+
+    pub row_put : RowPut starts cols values (set starts (r + 1) (before + k)) (splice cols before (take k c')) (splice values before (take k v')) r before (before + k) (row_of m r)
+    row_put =
+        let b = row_starts in
+        let tv : take k v' ≡ values_in (row_of m r) = ap (λ (x : List Float). take k x) a.values ∙ take-splice_front v (values_in (row_of m r)) k values_are (omega (arith, b.values_long, built.within)) in
+        let tc : take k c' ≡ columns_in (row_of m r) = ap (λ (x : List ℕ). take k x) a.columns ∙ take-splice_front c (columns_in (row_of m r)) k columns_are (omega (arith, b.cols_long, built.within)) in
+        rw (tv, tc, a.count) record { total = refl; start = refl; columns = refl; entries = refl }
 
 -- ---- all rows
 
-pub row_long : (f : List Float) (w : List ℕ) (f' : List Float) (w' : List ℕ) (at : Places) (r count end : ℕ) (es : List Entry) → RowPut f w f' w' at r count end es → length w' ≡ length w
-row_long f w f' w' at r count end es p = ap length p.columns ∙ simp length-set (length-splice w (at.cols + count) (columns_in es))
-
-module _ (f : List Float) (w : List ℕ) (f' : List Float) (w' : List ℕ) (at : Places) (k : ℕ) (rs : List (List Entry)) (p : RowsPut f w f' w' at k rs) where
-  pub rows_floats_long : length f' ≡ length f
-  rows_floats_long = ap length p.values ∙ length-splice f at.values (values_of rs)
-
-  pub rows_words_long : length w' ≡ length w
-  rows_words_long = ap length p.columns ∙ length-splice (splice w at.starts (starts_from 0 rs)) at.cols (columns_of rs) ∙ length-splice w at.starts (starts_from 0 rs)
-
--- what the rows are built from is as it was
-pub record Kept (f : List Float) (w : List ℕ) (f' : List Float) (w' : List ℕ) (n t : ℕ) (at : Places) : Type 0 where
-  pub floats_long : length f' ≡ length f
-  pub words_long : length w' ≡ length w
-  pub vertices : vertices_in f' n at ≡ vertices_in f n at
-  pub row : part f' at.row n ≡ part f at.row n
-  pub corners : corners_in w' t at ≡ corners_in w t at
-  pub tags : tags_in w' n at ≡ tags_in w n at
-  pub heads : part w' at.heads n ≡ part w at.heads n
-  pub links : part w' at.links (3 * t) ≡ part w at.links (3 * t)
-  pub rowcols : part w' at.rowcols n ≡ part w at.rowcols n
-  pub start : get_or w' at.starts 0 ≡ 0
-
-module _ (f : List Float) (w : List ℕ) (n t : ℕ) (at : Places) (y : Ready f w n t at) where
-  pub ready_kept : (f' : List Float) (w' : List ℕ) → Kept f w f' w' n t at → Ready f' w' n t at
-  ready_kept f' w' k =
-      record {
-        floats_laid = record { vertices = y.floats_laid.vertices; right = y.floats_laid.right; row = y.floats_laid.row; values = rw k.floats_long y.floats_laid.values };
-        words_laid = record {
-          few = y.words_laid.few;
-          triangles = y.words_laid.triangles;
-          tags = y.words_laid.tags;
-          starts = y.words_laid.starts;
-          cols = y.words_laid.cols;
-          heads = y.words_laid.heads;
-          links = y.words_laid.links;
-          row = rw k.words_long y.words_laid.row;
-          corners = rw k.corners y.words_laid.corners;
-        };
-        linked = record { heads = rw (k.heads, k.corners) y.linked.heads; links = rw (k.links, k.corners) y.linked.links };
-        values_clear = k.row ∙ y.values_clear;
-        columns_clear = k.rowcols ∙ y.columns_clear;
-        start = k.start;
-      }
-
-module _ (f : List Float) (w : List ℕ) (n t : ℕ) (at : Places) (flat : Float) (y : Ready f w n t at) where
+module _ (m : Elements) (mesh : IsMesh m) where
   -- the first i rows have few entries
-  rows_few : (i : ℕ) → i ≤ n → count (rows_for flat f w n t at i) ≤ 9 * t + n
-  rows_few i h =
-      let l : length (corners_in w t at) ≡ 3 * t = length_part w at.triangles (3 * t) (omega (arith, y.words_laid)) in
-      omega (arith, few_entries (tags_in w n at) flat (vertices_in f n at) (corners_in w t at) i)
+  pub rows_few : (i : ℕ) → i ≤ length m.tags.now → count (rows_of m i) ≤ room_of m
+  rows_few i h = omega (arith, few_entries m.tags.now m.flat m.vertices.now m.triangles.now i)
 
-  count_next : (i : ℕ) → count (rows_for flat f w n t at (suc i)) ≡ count (rows_for flat f w n t at i) + length (row_for flat f w n t at i)
+  count_next : (i : ℕ) → count (rows_of m (suc i)) ≡ count (rows_of m i) + length (row_of m i)
   unfolding rows count
-  count_next i = omega (arith, count-append (rows_for flat f w n t at i) (row_for flat f w n t at i ∷ []))
+  count_next i = omega (arith, count-append (rows_of m i) (row_of m i ∷ []))
 
-  pub rows_kept : (i : ℕ) → i ≤ n → (f' : List Float) (w' : List ℕ) (k : ℕ) → RowsPut f w f' w' at k (rows_for flat f w n t at i) → Kept f w f' w' n t at
-  rows_kept i h f' w' k p =
-      let rs = rows_for flat f w n t at i in
-      let v = values_of rs in
-      let c = columns_of rs in
-      let s = starts_from 0 rs in
-      let u = splice w at.starts s in
-      let few : count rs ≤ 9 * t + n = rows_few i h in
-      let lc : length c ≡ count rs = length-columns_of rs in
-      let ls : length s ≡ suc i = length_starts 0 rs ∙ ap suc (length-rows (tags_in w n at) (pushes_in flat f w n t at) i) in
-      let fl = y.floats_laid in
-      let wl = y.words_laid in
-      let before : (b m : ℕ) → b + m ≤ at.starts → part w' b m ≡ part w b m =
-      λ (b m : ℕ) (q : b + m ≤ at.starts).
-      ap (λ (x : List ℕ). part x b m) p.columns ∙ part_splice-before u at.cols c b m (omega arith) ∙ part_splice-before w at.starts s b m q in
-      let after : (b m : ℕ) → at.heads ≤ b → part w' b m ≡ part w b m =
-      λ (b m : ℕ) (q : at.heads ≤ b).
-      ap (λ (x : List ℕ). part x b m) p.columns ∙ part_splice-after u at.cols c b m (omega arith) ∙ part_splice-after w at.starts s b m (omega arith) in
-      let first : at.starts + 0 ≡ at.starts = omega arith in
-      record {
-        floats_long = ap length p.values ∙ length-splice f at.values v;
-        words_long = ap length p.columns ∙ length-splice u at.cols c ∙ length-splice w at.starts s;
-        vertices = ap (λ (x : List Float). part x at.vertices (2 * n)) p.values ∙ part_splice-before f at.values v at.vertices (2 * n) (omega arith);
-        row = ap (λ (x : List Float). part x at.row n) p.values ∙ part_splice-before f at.values v at.row n (omega arith);
-        corners = before at.triangles (3 * t) (omega arith);
-        tags = before at.tags n (omega arith);
-        heads = after at.heads n (omega arith);
-        links = after at.links (3 * t) (omega arith);
-        rowcols = after at.rowcols n (omega arith);
-        start =
-            ap (λ (x : List ℕ). get_or x at.starts 0) p.columns ∙ get_or-splice-before u at.cols c at.starts 0 (omega arith)
-            ∙ rw first at (get_or-splice-at w at.starts s 0 0 (omega arith) (omega arith)) ∙ starts_head 0 rs;
-      }
-
-  pub rows_none : RowsPut f w f w at 0 (rows_for flat f w n t at 0)
+  pub rows_none : (starts cols : List ℕ) (values : List Float) → RowsPut starts cols values (set starts 0 0) cols values 0 (rows_of m 0)
   unfolding rows count values_of columns_of starts_from
-  rows_none =
-      record {
-        total = refl;
-        values = sym (splice_nil f at.values);
-        columns = rw (splice_nil, splice-one w at.starts 0) (sym (set-get_or w at.starts 0) ∙ ap (λ (x : ℕ). set w at.starts x) y.start);
-      }
+  rows_none starts cols values = record { total = refl; start = sym (splice-one starts 0 0); columns = sym (splice_nil cols 0); entries = sym (splice_nil values 0) }
 
-  module _ (i : ℕ) (h : i < n) (f₁ : List Float) (w₁ : List ℕ) (k : ℕ) (p : RowsPut f w f₁ w₁ at k (rows_for flat f w n t at i)) where
-    kept : Kept f w f₁ w₁ n t at
-    kept = rows_kept i (omega arith) f₁ w₁ k p
+  module _ (starts cols : List ℕ) (values : List Float) (i : ℕ) (h : i < length m.tags.now) (s₁ c₁ : List ℕ) (v₁ : List Float) (k : ℕ) (p : RowsPut starts cols values s₁ c₁ v₁ k (rows_of m i)) where
+    pub rows_room : k + length (row_of m i) ≤ room_of m
+    rows_room = omega (arith, p.total, count_next i, rows_few (suc i) (omega arith))
 
-    same_row : row_for flat f₁ w₁ n t at i ≡ row_for flat f w n t at i
-    same_row = rw (kept.vertices, kept.corners, kept.tags)
-
-    pub row_ready : Ready f₁ w₁ n t at × (i < n) × (k + length (row_for flat f₁ w₁ n t at i) ≤ 9 * t + n)
-    row_ready = (ready_kept f w n t at y f₁ w₁ kept, h, rw same_row (omega (arith, p.total, count_next i, rows_few (suc i) (omega arith))))
-
-    pub rows_again : (f₂ : List Float) (w₂ : List ℕ) (e : ℕ) → RowPut f₁ w₁ f₂ w₂ at i k e (row_for flat f₁ w₁ n t at i) → RowsPut f w f₂ w₂ at e (rows_for flat f w n t at (i + 1))
+    pub rows_again : (s₂ c₂ : List ℕ) (v₂ : List Float) (e : ℕ) → RowPut s₁ c₁ v₁ s₂ c₂ v₂ i k e (row_of m i) → RowsPut starts cols values s₂ c₂ v₂ e (rows_of m (i + 1))
     unfolding rows
-    rows_again f₂ w₂ e q =
-        let rs = rows_for flat f w n t at i in
-        let es = row_for flat f w n t at i in
+    rows_again s₂ c₂ v₂ e q =
+        let rs = rows_of m i in
+        let es = row_of m i in
         let v = values_of rs in
         let c = columns_of rs in
         let s = starts_from 0 rs in
         let x = 0 + count rs + length es in
-        let lv : length v ≡ k = length-values_of rs ∙ sym p.total in
-        let lc : length c ≡ k = length-columns_of rs ∙ sym p.total in
-        let ls : length s ≡ suc i = length_starts 0 rs ∙ ap suc (length-rows (tags_in w n at) (pushes_in flat f w n t at) i) in
-        let wl = y.words_laid in
-        let q' : RowPut f₁ w₁ f₂ w₂ at i k e es = rw same_row at q in
+        let lv : 0 + length v ≡ k = omega (arith, length-values_of rs, p.total) in
+        let lc : 0 + length c ≡ k = omega (arith, length-columns_of rs, p.total) in
+        let ls : 0 + length s ≡ i + 1 = omega (arith, length_starts 0 rs, length-rows m.tags.now (pushes_of m) i) in
         let xe : k + length es ≡ x = omega (arith, p.total) in
-        let se : at.starts + i + 1 ≡ at.starts + length s = omega arith in
-        let fv : f₂ ≡ splice f at.values (v ++ values_in es) =
-        q'.values ∙ ap (λ (l : List Float). splice l (at.values + k) (values_in es)) p.values ∙ ap (λ (m : ℕ). splice (splice f at.values v) (at.values + m) (values_in es)) (sym lv)
-        ∙ sym (splice-append f at.values v (values_in es)) in
-        let wc : splice w₁ (at.cols + k) (columns_in es) ≡ splice (splice w at.starts s) at.cols (c ++ columns_in es) =
-        ap (λ (l : List ℕ). splice l (at.cols + k) (columns_in es)) p.columns ∙ ap (λ (m : ℕ). splice (splice (splice w at.starts s) at.cols c) (at.cols + m) (columns_in es)) (sym lc)
-        ∙ sym (splice-append (splice w at.starts s) at.cols c (columns_in es)) in
-        let ws : set (splice w at.starts s) (at.starts + i + 1) (k + length es) ≡ splice w at.starts (s ++ (x ∷ [])) =
-        ap (λ (m : ℕ). set (splice w at.starts s) m (k + length es)) se ∙ ap (λ (m : ℕ). set (splice w at.starts s) (at.starts + length s) m) xe ∙ sym (splice_snoc w at.starts s x) in
+        let fv : v₂ ≡ splice values 0 (v ++ values_in es) =
+        q.entries ∙ ap (λ (l : List Float). splice l k (values_in es)) p.entries ∙ ap (λ (j : ℕ). splice (splice values 0 v) j (values_in es)) (sym lv) ∙ sym (splice-append values 0 v (values_in es)) in
+        let fc : c₂ ≡ splice cols 0 (c ++ columns_in es) =
+        q.columns ∙ ap (λ (l : List ℕ). splice l k (columns_in es)) p.columns ∙ ap (λ (j : ℕ). splice (splice cols 0 c) j (columns_in es)) (sym lc) ∙ sym (splice-append cols 0 c (columns_in es)) in
+        let fs : s₂ ≡ splice starts 0 (s ++ (x ∷ [])) =
+        q.start ∙ ap (λ (l : List ℕ). set l (i + 1) (k + length es)) p.start ∙ ap (λ (j : ℕ). set (splice starts 0 s) (i + 1) j) xe
+        ∙ ap (λ (j : ℕ). set (splice starts 0 s) j x) (sym ls) ∙ sym (splice_snoc starts 0 s x) in
         rw (add-one i) record {
-          total = q'.total ∙ ap (λ (m : ℕ). m + length es) p.total ∙ sym (count_next i);
-          values = fv ∙ ap (λ (l : List Float). splice f at.values l) (sym (values_snoc rs es));
-          columns =
-              q'.columns ∙ ap (λ (l : List ℕ). set l (at.starts + i + 1) (k + length es)) wc
-              ∙ set-splice-before (splice w at.starts s) at.cols (c ++ columns_in es) (at.starts + i + 1) (k + length es) (omega arith)
-              ∙ ap (λ (l : List ℕ). splice l at.cols (c ++ columns_in es)) ws
-              ∙ ap (λ (l : List ℕ). splice (splice w at.starts l) at.cols (c ++ columns_in es)) (sym (starts_snoc 0 rs es))
-              ∙ ap (λ (l : List ℕ). splice (splice w at.starts (starts_from 0 (rs ++ (es ∷ [])))) at.cols l) (sym (columns_snoc rs es));
+          total = q.total ∙ ap (λ (j : ℕ). j + length es) p.total ∙ sym (count_next i);
+          start = fs ∙ ap (λ (l : List ℕ). splice starts 0 l) (sym (starts_snoc 0 rs es));
+          columns = fc ∙ ap (λ (l : List ℕ). splice cols 0 l) (sym (columns_snoc rs es));
+          entries = fv ∙ ap (λ (l : List Float). splice values 0 l) (sym (values_snoc rs es));
         }
 
-  pub rows_done : (f' : List Float) (w' : List ℕ) (k i : ℕ) → i ≡ n → RowsPut f w f' w' at k (rows_for flat f w n t at i) → RowsPut f w f' w' at k (rows_for flat f w n t at n)
-  rows_done f' w' k i e p = rw e at p
+-- the matrix has room still
+pub ready_on : (m : Elements) (heads links : List ℕ) (v : List Float) (c starts cols : List ℕ) (values : List Float) → Ready m heads links v c starts cols values
+    → (s₁ c₁ : List ℕ) (v₁ : List Float) (k : ℕ) (rs : List (List Entry)) → RowsPut starts cols values s₁ c₁ v₁ k rs → (v' : List Float) (c' : List ℕ) → v' ≡ v → c' ≡ c → Ready m heads links v' c' s₁ c₁ v₁
+ready_on m heads links v c starts cols values y s₁ c₁ v₁ k rs p v' c' ev ec =
+    record {
+      mesh = y.mesh;
+      linked = y.linked;
+      row_clear = ev ∙ y.row_clear;
+      columns_clear = ec ∙ y.columns_clear;
+      starts_long = ap length p.start ∙ length-splice starts 0 (starts_from 0 rs) ∙ y.starts_long;
+      cols_long = ap length p.columns ∙ length-splice cols 0 (columns_of rs) ∙ y.cols_long;
+      values_long = ap length p.entries ∙ length-splice values 0 (values_of rs) ∙ y.values_long;
+    }

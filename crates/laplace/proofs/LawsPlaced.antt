@@ -7,9 +7,9 @@ use mathlib.Core.Logic.{◌⊎◌, ⊎_elim}
 use mathlib.Core.List.{List, [], ◌∷◌, ◌++◌, append_assoc, append-nil}
 use lib.ListN.{length, get_or, replicate, length-append, length-replicate, replicate-append-replicate}
 use Rattle.stretch.specs.Stretch.{part, splice}
-use Rattle.stretch.specs.StretchLaws.{part_part, part_replicate, part_splice-same, splice_part, splice_comm, splice-splice-same, splice-splice_in, splice-front-all}
+use Rattle.stretch.specs.StretchLaws.{part_part, part_replicate, part_splice-same, splice_part, splice_comm, splice-splice-same, splice-front-all}
 use Rattle.sparse.specs.Sparse.{Entry}
-use Rattle.laplace.specs.Assembly.{Push, row, rows}
+use Rattle.laplace.specs.Assembly.{Push, rows}
 use Rattle.laplace.specs.Matrix.{count}
 use Rattle.laplace.specs.Placed.{values_in, columns_in, values_of, columns_of, starts_from, padded}
 use Rattle.laplace.proofs.LawsInsert.{length_values, length_columns}
@@ -82,16 +82,13 @@ module _ {ℓ} {A : Type ℓ} where
 
   -- ---- a list written to a clear stretch
 
-  pub padded_in : (l : List A) (at m : ℕ) (z : A) (v : List A) → length v ≤ m → splice (splice l at (replicate m z)) at v ≡ splice l at (padded m z v)
+  pub padded_on : (m : ℕ) (z : A) (v : List A) → length v ≤ m → splice (replicate m z) 0 v ≡ padded m z v
   unfolding padded
-  padded_in l at m z v h =
+  padded_on m z v h =
       let k = length v in
       let e : k + (m - k) ≡ m = omega arith in
       let r : replicate m z ≡ replicate k z ++ replicate (m - k) z = ap (λ (x : ℕ). replicate x z) (sym e) ∙ sym (replicate-append-replicate k (m - k) z) in
-      let s : splice (replicate m z) 0 v ≡ v ++ replicate (m - k) z =
-      ap (λ (x : List A). splice x 0 v) r ∙ splice-front-all (replicate k z) (replicate (m - k) z) v (sym (length-replicate k z)) in
-      let lz : length (replicate m z) ≡ m = length-replicate m z in
-      ap (λ (x : ℕ). splice (splice l at (replicate m z)) x v) (sym (add-zero at)) ∙ splice-splice_in l at (replicate m z) 0 v (omega arith) ∙ ap (λ (x : List A). splice l at x) s
+      ap (λ (x : List A). splice x 0 v) r ∙ splice-front-all (replicate k z) (replicate (m - k) z) v (sym (length-replicate k z))
 
   pub length-padded : (m : ℕ) (z : A) (v : List A) → length v ≤ m → length (padded m z v) ≡ m
   unfolding padded

@@ -1,5 +1,5 @@
--- Entries written one insertion after the other, and what of the mesh stays while a row is built. Assumes nothing.
-use Prim.Native.Nat.{ℕ, suc, ◌+◌, ◌-◌, ◌*◌, ◌/◌, ◌%◌, ◌≤◌, ◌<◌}
+-- Entries written one insertion after the other, and the row that is built of them. Assumes nothing.
+use Prim.Native.Nat.{ℕ, suc, ◌+◌, ◌/◌, ◌%◌, ◌≤◌, ◌<◌}
 use native.Mathlib.Nat.{le_refl}
 use native.Mathlib.Omega.{arith}
 use mathlib.Core.Path.{◌≡◌, refl, sym, ap, ◌∙◌}
@@ -7,15 +7,17 @@ use mathlib.Core.Bool.{Bool, true, false}
 use mathlib.Core.List.{List, [], ◌∷◌}
 use lib.Dec.{eqb, ltb}
 use lib.Ieee.{Float}
-use lib.ListN.{length, get_or, set}
+use lib.ListN.{length, take, get_or, set}
+use lib.Seq.{length-take-le}
 use borrow.Author.Tests.{ne_eqb}
+use Rattle.std.specs.Prelude.{Option, Some, None}
 use Rattle.binary64.specs.Arith.{◌⊕◌}
 use Rattle.binary64.specs.Constants.{one}
 use Rattle.binary64.specs.Number.{pick}
-use Rattle.stretch.specs.Stretch.{part, splice}
-use Rattle.stretch.specs.StretchLaws.{length_part, length-splice, get_d_part, splice-one, splice_part, splice-splice-over, part_splice-before, part_splice-same}
-use Rattle.sparse.specs.Sparse.{Entry, entry, entries}
-use Rattle.laplace.specs.declared.Places.{Places}
+use Rattle.stretch.specs.Stretch.{splice}
+use Rattle.stretch.specs.StretchLaws.{length-splice, splice-one, splice-splice-over}
+use Rattle.sparse.specs.Sparse.{Entry, entry}
+use Rattle.laplace.specs.declared.element.Elements.{Elements}
 use Rattle.laplace.specs.declared.element.Side.{Side}
 use Rattle.laplace.specs.declared.element.Stiff.{Stiff}
 use Rattle.laplace.specs.declared.element.Triangle.{Triangle}
@@ -24,58 +26,49 @@ use Rattle.laplace.specs.Assembly.{Push, insert, inserted, row}
 use Rattle.laplace.specs.Matrix.{Rising, Below, insert_rising, insert_below}
 use Rattle.laplace.specs.Element.{stiff_in, triangle_of, Within}
 use Rattle.laplace.specs.Placed.{values_in, columns_in}
-use Rattle.laplace.specs.Row.{entries_at, Room, Written, vertices_in, corners_in, tags_in, row_in, Tidy, Building, placed, three_placed, side_of, added_by, added}
-use Rattle.laplace.proofs.LawsInsert.{length_columns, length_values, entries_columns, entries_values, entries_again, length-entries}
+use Rattle.laplace.specs.Row.{entries_in, Room, Written, Tidy, Building, placed, three_placed, side_of, sides_placed, added_by, added}
+use Rattle.laplace.proofs.LawsInsert.{splice_take, take-splice_front, length_in, length_columns, length_values, entries_columns, entries_values, entries_again, length-entries}
 
 -- ---- entries that were written
 
-module _ (f : List Float) (w : List ℕ) (v c : ℕ) where
+module _ (v : List Float) (c : List ℕ) where
   -- what stands there may be said to be written
-  pub written_none : (k : ℕ) → v + k ≤ length f → c + k ≤ length w → Written f w f w v c k (entries_at f w v c k)
-  written_none k hf hw =
-      let lv : length (part f v k) ≡ k = length_part f v k hf in
-      let lc : length (part w c k) ≡ k = length_part w c k hw in
-      let l : length (part w c k) ≡ length (part f v k) = omega arith in
+  pub written_none : (k : ℕ) → k ≤ length v → k ≤ length c → Written v c v c k (entries_in v c k)
+  written_none k hv hc =
+      let l : length (take k c) ≡ length (take k v) = length_in v c k hv hc in
       record {
-        count = omega (arith, length-entries (part w c k) (part f v k) l);
-        values = sym (splice_part f v k) ∙ ap (λ (x : List Float). splice f v x) (sym (entries_values (part w c k) (part f v k) l));
-        columns = sym (splice_part w c k) ∙ ap (λ (x : List ℕ). splice w c x) (sym (entries_columns (part w c k) (part f v k) l));
+        count = omega (arith, length-entries (take k c) (take k v) l, length-take-le k c hc);
+        values = sym (splice_take v k) ∙ ap (λ (x : List Float). splice v 0 x) (sym (entries_values (take k c) (take k v) l));
+        columns = sym (splice_take c k) ∙ ap (λ (x : List ℕ). splice c 0 x) (sym (entries_columns (take k c) (take k v) l));
       }
 
-  module _ (f' : List Float) (w' : List ℕ) (k : ℕ) (es : List Entry) (r : Written f w f' w' v c k es) where
-    pub floats_long : length f' ≡ length f
-    floats_long = ap length r.values ∙ length-splice f v (values_in es)
+  module _ (v' : List Float) (c' : List ℕ) (k : ℕ) (es : List Entry) (r : Written v c v' c' k es) where
+    pub values_long : length v' ≡ length v
+    values_long = ap length r.values ∙ length-splice v 0 (values_in es)
 
-    pub words_long : length w' ≡ length w
-    words_long = ap length r.columns ∙ length-splice w c (columns_in es)
+    pub columns_long : length c' ≡ length c
+    columns_long = ap length r.columns ∙ length-splice c 0 (columns_in es)
 
     -- and is what is read
-    pub read_back : v + k ≤ length f → c + k ≤ length w → entries_at f' w' v c k ≡ es
-    read_back hf hw =
+    pub read_back : k ≤ length v → k ≤ length c → entries_in v' c' k ≡ es
+    read_back hv hc =
         let lv : length (values_in es) ≡ k = length_values es ∙ sym r.count in
         let lc : length (columns_in es) ≡ k = length_columns es ∙ sym r.count in
-        let pv : part f' v k ≡ values_in es = ap (λ (x : List Float). part x v k) r.values ∙ part_splice-same f v (values_in es) k lv hf in
-        let pc : part w' c k ≡ columns_in es = ap (λ (x : List ℕ). part x c k) r.columns ∙ part_splice-same w c (columns_in es) k lc hw in
+        let pv : take k v' ≡ values_in es = ap (λ (x : List Float). take k x) r.values ∙ take-splice_front v (values_in es) k lv hv in
+        let pc : take k c' ≡ columns_in es = ap (λ (x : List ℕ). take k x) r.columns ∙ take-splice_front c (columns_in es) k lc hc in
         rw (pv, pc) (entries_again es)
 
-    -- what lies before stays
-    pub floats_before : (b n : ℕ) → b + n ≤ v → part f' b n ≡ part f b n
-    floats_before b n h = ap (λ (x : List Float). part x b n) r.values ∙ part_splice-before f v (values_in es) b n h
-
-    pub words_before : (b n : ℕ) → b + n ≤ c → part w' b n ≡ part w b n
-    words_before b n h = ap (λ (x : List ℕ). part x b n) r.columns ∙ part_splice-before w c (columns_in es) b n h
-
     -- at least as many written after them
-    pub written_then : (f'' : List Float) (w'' : List ℕ) (k' : ℕ) (es' : List Entry) → length es ≤ length es' → Written f' w' f'' w'' v c k' es' → Written f w f'' w'' v c k' es'
-    written_then f'' w'' k' es' h s =
+    pub written_then : (v'' : List Float) (c'' : List ℕ) (k' : ℕ) (es' : List Entry) → length es ≤ length es' → Written v' c' v'' c'' k' es' → Written v c v'' c'' k' es'
+    written_then v'' c'' k' es' h s =
         record {
           count = s.count;
           values =
-              s.values ∙ ap (λ (x : List Float). splice x v (values_in es')) r.values
-              ∙ splice-splice-over f v v (values_in es) (values_in es') (le_refl v) (omega (arith, length_values es, length_values es'));
+              s.values ∙ ap (λ (x : List Float). splice x 0 (values_in es')) r.values
+              ∙ splice-splice-over v 0 0 (values_in es) (values_in es') (le_refl 0) (omega (arith, length_values es, length_values es'));
           columns =
-              s.columns ∙ ap (λ (x : List ℕ). splice x c (columns_in es')) r.columns
-              ∙ splice-splice-over w c c (columns_in es) (columns_in es') (le_refl c) (omega (arith, length_columns es, length_columns es'));
+              s.columns ∙ ap (λ (x : List ℕ). splice x 0 (columns_in es')) r.columns
+              ∙ splice-splice-over c 0 0 (columns_in es) (columns_in es') (le_refl 0) (omega (arith, length_columns es, length_columns es'));
         }
 
 -- ---- tidy entries are few, and an insertion leaves them tidy
@@ -140,114 +133,78 @@ module _ (n : ℕ) (tags : List ℕ) where
 
   module _ (flat : Float) (vs : List Float) (q : Triangle) (e : ℕ) (es : List Entry) where
     pub tidy_by : Within n q → Tidy n es → Tidy n (added_by tags flat vs q e es)
-    unfolding added_by
-    tidy_by h t = go (stiff_in flat vs q).skipped
+    unfolding added_by sides_placed
+    tidy_by h t = go (stiff_in flat vs q)
       where
-        go : (b : Bool) → Tidy n (pick b es (three_placed tags q (side_of (stiff_in flat vs q) e) es))
-        go true = t
-        go false = tidy_three q (side_of (stiff_in flat vs q) e) es h t
+        go : (o : Option Stiff) → Tidy n (sides_placed tags q e o es)
+        go None = t
+        go (Some s) = tidy_three q (side_of s e) es h t
 
     pub by_longer : length es ≤ length (added_by tags flat vs q e es)
-    unfolding added_by
-    by_longer = go (stiff_in flat vs q).skipped
+    unfolding added_by sides_placed
+    by_longer = go (stiff_in flat vs q)
       where
-        go : (b : Bool) → length es ≤ length (pick b es (three_placed tags q (side_of (stiff_in flat vs q) e) es))
-        go true = le_refl (length es)
-        go false = three_longer q (side_of (stiff_in flat vs q) e) es
+        go : (o : Option Stiff) → length es ≤ length (sides_placed tags q e o es)
+        go None = le_refl (length es)
+        go (Some s) = three_longer q (side_of s e) es
 
--- ---- the row buffer
+-- ---- the row that is built
 
-module _ (f : List Float) (w : List ℕ) (n t : ℕ) (at : Places) (k : ℕ) (b : Building f w n t at k) where
+module _ (m : Elements) (v : List Float) (c : List ℕ) (k : ℕ) (b : Building m v c k) where
   -- there is room for an entry more
-  pub room : (j : ℕ) (v : Float) → j < n → Room f w at.row at.rowcols k (insert j v (row_in f w at k))
-  room j v h =
-      let l : length (insert j v (row_in f w at k)) ≤ n = tidy_few n (insert j v (row_in f w at k)) (tidy_insert n j v (row_in f w at k) h b.tidy) in
-      record { floats_now = omega (arith, b); words_now = omega (arith, b); floats_then = omega (arith, b); words_then = omega (arith, b) }
+  pub room : (j : ℕ) (x : Float) → j < length m.tags.now → Room v c k (insert j x (entries_in v c k))
+  room j x h =
+      let n = length m.tags.now in
+      let l : length (insert j x (entries_in v c k)) ≤ n = tidy_few n (insert j x (entries_in v c k)) (tidy_insert n j x (entries_in v c k) h b.tidy) in
+      record { values_now = omega (arith, b); cols_now = omega (arith, b); values_then = omega (arith, b); cols_then = omega (arith, b) }
 
-  -- the tag of a vertex, as the code reads it
-  pub tag_read : (j : ℕ) → j < n → tag_of (tags_in w n at) j ≡ get_or w (at.tags + j) 0
-  unfolding tag_of
-  tag_read j h = get_d_part w at.tags n j 0 h
+  pub written-placed : (v' : List Float) (c' : List ℕ) (k' j : ℕ) (x : Float) → get_or m.tags.now j 0 ≡ 0
+      → Written v c v' c' k' (insert j x (entries_in v c k)) → Written v c v' c' k' (placed m.tags.now j x (entries_in v c k))
+  unfolding placed free tag_of
+  written-placed v' c' k' j x e r = rw e r
 
-  pub written-placed : (f' : List Float) (w' : List ℕ) (k' i j : ℕ) (v : Float) → j < n → i ≡ j → get_or w (at.tags + i) 0 ≡ 0
-      → Written f w f' w' at.row at.rowcols k' (insert j v (row_in f w at k)) → Written f w f' w' at.row at.rowcols k' (placed (tags_in w n at) j v (row_in f w at k))
-  unfolding placed free
-  written-placed f' w' k' i j v h q e r = rw (tag_read j h, rw q at e) r
-
-  pub written_held : (i j : ℕ) (v : Float) → j < n → i ≡ j → (get_or w (at.tags + i) 0 ≡ 0 → ⊥) → Written f w f w at.row at.rowcols k (placed (tags_in w n at) j v (row_in f w at k))
-  unfolding placed free
-  written_held i j v h q e = rw (tag_read j h, ne_eqb (get_or w (at.tags + j) 0) 0 (rw q at e)) (written_none f w at.row at.rowcols k (omega (arith, b)) (omega (arith, b)))
+  pub written_held : (j : ℕ) (x : Float) → (get_or m.tags.now j 0 ≡ 0 → ⊥) → Written v c v c k (placed m.tags.now j x (entries_in v c k))
+  unfolding placed free tag_of
+  written_held j x e = rw (ne_eqb (get_or m.tags.now j 0) 0 e) (written_none v c k (omega (arith, b)) (omega (arith, b)))
 
   -- the row of a vertex: that of a held one is its lone 1
-  pub written-free : (ps : List Push) (r : ℕ) → r < n → get_or w (at.tags + r) 0 ≡ 0 → (f' : List Float) (w' : List ℕ) (k' : ℕ)
-      → Written f w f' w' at.row at.rowcols k' (inserted (tags_in w n at) r ps []) → Written f w f' w' at.row at.rowcols k' (row (tags_in w n at) ps r)
-  unfolding row free
-  written-free ps r h e f' w' k' a = rw (tag_read r h, e) a
+  pub written-free : (ps : List Push) (r : ℕ) → get_or m.tags.now r 0 ≡ 0 → (v' : List Float) (c' : List ℕ) (k' : ℕ)
+      → Written v c v' c' k' (inserted m.tags.now r ps []) → Written v c v' c' k' (row m.tags.now ps r)
+  unfolding row free tag_of
+  written-free ps r e v' c' k' a = rw e a
 
-  pub written_lone : (ps : List Push) (r : ℕ) → r < n → (get_or w (at.tags + r) 0 ≡ 0 → ⊥) → Written f w (set f at.row one) (set w at.rowcols r) at.row at.rowcols 1 (row (tags_in w n at) ps r)
-  unfolding row free values_in columns_in
-  written_lone ps r h e =
-      rw (tag_read r h, ne_eqb (get_or w (at.tags + r) 0) 0 e) record { count = refl; values = sym (splice-one f at.row one); columns = sym (splice-one w at.rowcols r) }
+  pub written_lone : (ps : List Push) (r : ℕ) → (get_or m.tags.now r 0 ≡ 0 → ⊥) → Written v c (set v 0 one) (set c 0 r) 1 (row m.tags.now ps r)
+  unfolding row free tag_of values_in columns_in
+  written_lone ps r e = rw (ne_eqb (get_or m.tags.now r 0) 0 e) record { count = refl; values = sym (splice-one v 0 one); columns = sym (splice-one c 0 r) }
 
   -- a corner's entries: none where its triangle is skipped
-  module _ (flat : Float) (c : ℕ) (q : Triangle) (s : Stiff) (e : q ≡ triangle_of (corners_in w t at) (c / 3)) (d : s ≡ stiff_in flat (vertices_in f n at) q) where
-    pub written_skipped : s.skipped ≡ true → Written f w f w at.row at.rowcols k (added (tags_in w n at) flat (vertices_in f n at) (corners_in w t at) c (row_in f w at k))
-    unfolding added added_by
-    written_skipped y = rw (← e, ← d, y) (written_none f w at.row at.rowcols k (omega (arith, b)) (omega (arith, b)))
+  module _ (i : ℕ) (q : Triangle) (o : Option Stiff) (e : q ≡ triangle_of m.triangles.now (i / 3)) (d : o ≡ stiff_in m.flat m.vertices.now q) where
+    pub written_skipped : o ≡ None → Written v c v c k (added m.tags.now m.flat m.vertices.now m.triangles.now i (entries_in v c k))
+    unfolding added added_by sides_placed
+    written_skipped y = rw (← e, ← d, y) (written_none v c k (omega (arith, b)) (omega (arith, b)))
 
-    pub written-corner : s.skipped ≡ false → (f' : List Float) (w' : List ℕ) (k' : ℕ) (x : Side) → x ≡ side_of s (c % 3)
-        → Written f w f' w' at.row at.rowcols k' (three_placed (tags_in w n at) q x (row_in f w at k))
-        → Written f w f' w' at.row at.rowcols k' (added (tags_in w n at) flat (vertices_in f n at) (corners_in w t at) c (row_in f w at k))
-    unfolding added added_by
-    written-corner y f' w' k' x g r =
-        let tags = tags_in w n at in
-        let vs = vertices_in f n at in
-        let es = row_in f w at k in
-        let v : (stiff_in flat vs q).skipped ≡ false = rw d at y in
-        let u : three_placed tags q x es ≡ added_by tags flat vs q (c % 3) es =
-        ap (λ (z : Side). three_placed tags q z es) (g ∙ ap (λ (z : Stiff). side_of z (c % 3)) d) ∙ rw v in
-        rw (u ∙ ap (λ (z : Triangle). added_by tags flat vs z (c % 3) es) e) at r
+    pub written-corner : (s : Stiff) → o ≡ Some s → (v' : List Float) (c' : List ℕ) (k' : ℕ) (x : Side) → x ≡ side_of s (i % 3)
+        → Written v c v' c' k' (three_placed m.tags.now q x (entries_in v c k))
+        → Written v c v' c' k' (added m.tags.now m.flat m.vertices.now m.triangles.now i (entries_in v c k))
+    unfolding added added_by sides_placed
+    written-corner s y v' c' k' x g r = rw (← e, ← d, y, ← g) r
 
-  module _ (f' : List Float) (w' : List ℕ) (k' : ℕ) (es : List Entry) (r : Written f w f' w' at.row at.rowcols k' es) where
-    pub tags_stay : tags_in w' n at ≡ tags_in w n at
-    tags_stay = words_before f w at.row at.rowcols f' w' k' es r at.tags n (omega (arith, b))
-
-    pub corners_stay : corners_in w' t at ≡ corners_in w t at
-    corners_stay = words_before f w at.row at.rowcols f' w' k' es r at.triangles (3 * t) (omega (arith, b))
-
-    pub vertices_stay : vertices_in f' n at ≡ vertices_in f n at
-    vertices_stay = floats_before f w at.row at.rowcols f' w' k' es r at.vertices (2 * n) (omega (arith, b))
-
-    pub row_read : Tidy n es → row_in f' w' at k' ≡ es
-    row_read y =
-        let l : length es ≤ n = tidy_few n es y in
-        read_back f w at.row at.rowcols f' w' k' es r (omega (arith, b, r.count)) (omega (arith, b, r.count))
+  module _ (v' : List Float) (c' : List ℕ) (k' : ℕ) (es : List Entry) (r : Written v c v' c' k' es) (y : Tidy (length m.tags.now) es) where
+    pub row_read : entries_in v' c' k' ≡ es
+    row_read =
+        let l : length es ≤ length m.tags.now = tidy_few (length m.tags.now) es y in
+        read_back v c v' c' k' es r (omega (arith, b, r.count)) (omega (arith, b, r.count))
 
     -- the row that is built goes on
-    pub building_on : Tidy n es → Building f' w' n t at k'
-    building_on y =
-        let lf : length f' ≡ length f = floats_long f w at.row at.rowcols f' w' k' es r in
-        let lw : length w' ≡ length w = words_long f w at.row at.rowcols f' w' k' es r in
-        let l : length es ≤ n = tidy_few n es y in
-        record {
-          floats_laid = record { vertices = b.floats_laid.vertices; right = b.floats_laid.right; row = b.floats_laid.row; values = rw lf b.floats_laid.values };
-          words_laid = record {
-            few = b.words_laid.few;
-            triangles = b.words_laid.triangles;
-            tags = b.words_laid.tags;
-            starts = b.words_laid.starts;
-            cols = b.words_laid.cols;
-            heads = b.words_laid.heads;
-            links = b.words_laid.links;
-            row = rw lw b.words_laid.row;
-            corners = rw corners_stay b.words_laid.corners;
-          };
-          within = omega (arith, r.count);
-          tidy = rw (row_read y) y;
-        }
+    pub building_on : Building m v' c' k'
+    building_on =
+        let lv : length v' ≡ length v = values_long v c v' c' k' es r in
+        let lc : length c' ≡ length c = columns_long v c v' c' k' es r in
+        let l : length es ≤ length m.tags.now = tidy_few (length m.tags.now) es y in
+        record { mesh = b.mesh; values_long = lv ∙ b.values_long; cols_long = lc ∙ b.cols_long; within = omega (arith, r.count); tidy = rw row_read y }
 
     -- one entry more, after those written
-    pub placed_on : Tidy n es → (f'' : List Float) (w'' : List ℕ) (k'' j : ℕ) (v : Float) → Written f' w' f'' w'' at.row at.rowcols k'' (placed (tags_in w' n at) j v (row_in f' w' at k'))
-        → Written f w f'' w'' at.row at.rowcols k'' (placed (tags_in w n at) j v es)
-    placed_on y f'' w'' k'' j v s =
-        written_then f w at.row at.rowcols f' w' k' es r f'' w'' k'' (placed (tags_in w n at) j v es) (placed_longer n (tags_in w n at) j v es) (rw (tags_stay, row_read y) at s)
+    pub placed_on : (v'' : List Float) (c'' : List ℕ) (k'' j : ℕ) (x : Float) → Written v' c' v'' c'' k'' (placed m.tags.now j x (entries_in v' c' k'))
+        → Written v c v'' c'' k'' (placed m.tags.now j x es)
+    placed_on v'' c'' k'' j x s =
+        written_then v c v' c' k' es r v'' c'' k'' (placed m.tags.now j x es) (placed_longer (length m.tags.now) m.tags.now j x es) (rw row_read at s)

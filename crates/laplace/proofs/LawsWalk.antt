@@ -7,26 +7,30 @@ use native.Mathlib.Omega.{arith}
 use mathlib.Core.Path.{◌≡◌, refl, sym, ap, ◌∙◌}
 use mathlib.Core.Bool.{Bool, true, false, ◌&&◌}
 use mathlib.Core.List.{List, [], ◌∷◌, ◌++◌}
+use Rattle.std.specs.Prelude.{Option, Some, None}
 use lib.Dec.{eqb}
 use lib.Ieee.{Float}
 use lib.ListN.{length, get_or, drop, length-drop}
 use lib.Seq.{drop-drop, get_or-drop}
 use borrow.Author.Tests.{eqb-true}
 use Rattle.binary64.specs.Number.{pick}
-use Rattle.stretch.specs.StretchLaws.{length_part, get_d_part, splice_nil}
+use Rattle.stretch.specs.StretchLaws.{splice_nil}
 use Rattle.sparse.specs.Sparse.{Entry}
-use Rattle.laplace.specs.declared.Places.{Places}
+use Rattle.laplace.specs.declared.element.Elements.{Elements}
 use Rattle.laplace.specs.declared.element.Side.{Side}
+use Rattle.laplace.specs.declared.element.Stiff.{Stiff}
 use Rattle.laplace.specs.declared.element.Triangle.{Triangle}
 use Rattle.laplace.specs.Mesh.{free}
-use Rattle.laplace.specs.Assembly.{Push, push, nine, triangle_pushes, pushes, insert, inserted}
+use Rattle.laplace.specs.Assembly.{Push, push, triangle_pushes, pushes, insert, inserted}
 use Rattle.laplace.specs.Element.{stiff_in, triangle_of}
 use Rattle.laplace.specs.Corners.{first_from}
 use Rattle.laplace.specs.Placed.{values_in, columns_in}
-use Rattle.laplace.specs.Row.{Written, vertices_in, corners_in, tags_in, row_in, Tidy, Building, three_placed, side_of, added_by, added, Linked}
+use Rattle.laplace.specs.Elements.{pushes_of}
+use Rattle.laplace.specs.Right.{stiff_pushes}
+use Rattle.laplace.specs.Row.{entries_in, Written, Tidy, Building, three_placed, side_of, sides_placed, added_by, added, Linked}
 use Rattle.laplace.proofs.LawsElement.{triangle_pushes_lem, triangle-within}
 use Rattle.laplace.proofs.LawsCorners.{get_or_heads, get_or_links}
-use Rattle.laplace.proofs.LawsRow.{written_then, words_before, tidy_none, tidy_by, by_longer, tags_stay, corners_stay, vertices_stay, row_read}
+use Rattle.laplace.proofs.LawsRow.{written_then, tidy_none, tidy_by, by_longer, row_read}
 
 -- ---- the walk, over the corners cs, which are numbered from k
 
@@ -109,30 +113,25 @@ pick_same false es = refl
 triangle-inserted : (tags : List ℕ) (flat : Float) (vs : List Float) (r : ℕ) (q : Triangle) (es : List Entry)
     → (let a = pick (eqb q.i r) (added_by tags flat vs q 0 es) es in let b = pick (eqb q.j r) (added_by tags flat vs q 1 a) a in
     inserted tags r (triangle_pushes flat vs q.i q.j q.k) es ≡ pick (eqb q.k r) (added_by tags flat vs q 2 b) b)
-unfolding added_by inserted side_of
-triangle-inserted tags flat vs r q es = rw (triangle_pushes_lem flat vs q) (go (stiff_in flat vs q).skipped)
+unfolding added_by inserted side_of sides_placed stiff_pushes
+triangle-inserted tags flat vs r q es = rw (triangle_pushes_lem flat vs q) (go (stiff_in flat vs q))
   where
-    side : ℕ → Side
-    side e = side_of (stiff_in flat vs q) e
-
     three : ℕ → Side → List Push
     three v s = push v q.i s.i ∷ push v q.j s.j ∷ push v q.k s.k ∷ []
 
-    added_if : Bool → ℕ → ℕ → List Entry → List Entry
-    added_if b v e l = pick (eqb v r) (pick b l (three_placed tags q (side e) l)) l
+    added_if : Option Stiff → ℕ → ℕ → List Entry → List Entry
+    added_if o v e l = pick (eqb v r) (sides_placed tags q e o l) l
 
-    go : (b : Bool)
-        → inserted tags r (pick b [] (nine q.i q.j q.k (stiff_in flat vs q).ii (stiff_in flat vs q).ij (stiff_in flat vs q).ik (stiff_in flat vs q).jj (stiff_in flat vs q).jk (stiff_in flat vs q).kk)) es
-        ≡ added_if b q.k 2 (added_if b q.j 1 (added_if b q.i 0 es))
-    go true = rw (pick_same (eqb q.i r) es, pick_same (eqb q.j r) es, pick_same (eqb q.k r) es)
-    go false =
-        let y = added_if false q.i 0 es in
-        let z = added_if false q.j 1 y in
-        inserted-append tags r (three q.i (side 0)) (three q.j (side 1) ++ three q.k (side 2)) es
-        ∙ ap (λ (l : List Entry). inserted tags r (three q.j (side 1) ++ three q.k (side 2)) l) (side_inserted tags r q.i q (side 0) es)
-        ∙ inserted-append tags r (three q.j (side 1)) (three q.k (side 2)) y
-        ∙ ap (λ (l : List Entry). inserted tags r (three q.k (side 2)) l) (side_inserted tags r q.j q (side 1) y)
-        ∙ side_inserted tags r q.k q (side 2) z
+    go : (o : Option Stiff) → inserted tags r (stiff_pushes q o) es ≡ added_if o q.k 2 (added_if o q.j 1 (added_if o q.i 0 es))
+    go None = rw (pick_same (eqb q.i r) es, pick_same (eqb q.j r) es, pick_same (eqb q.k r) es)
+    go (Some s) =
+        let y = added_if (Some s) q.i 0 es in
+        let z = added_if (Some s) q.j 1 y in
+        inserted-append tags r (three q.i (side_of s 0)) (three q.j (side_of s 1) ++ three q.k (side_of s 2)) es
+        ∙ ap (λ (l : List Entry). inserted tags r (three q.j (side_of s 1) ++ three q.k (side_of s 2)) l) (side_inserted tags r q.i q (side_of s 0) es)
+        ∙ inserted-append tags r (three q.j (side_of s 1)) (three q.k (side_of s 2)) y
+        ∙ ap (λ (l : List Entry). inserted tags r (three q.k (side_of s 2)) l) (side_inserted tags r q.j q (side_of s 1) y)
+        ∙ side_inserted tags r q.k q (side_of s 2) z
 
 -- where a corner's triangle is
 added-at : (tags : List ℕ) (flat : Float) (vs : List Float) (ts : List ℕ) (c q e : ℕ) (es : List Entry) → c ≡ 3 * q + e → e < 3 → added tags flat vs ts c es ≡ added_by tags flat vs (triangle_of ts q) e es
@@ -192,91 +191,83 @@ ahead-less m zero d h k f = absurd (omega arith)
 ahead-less m (suc c) zero h k f = omega arith
 ahead-less m (suc c) (suc d) h k f = omega (arith, f (omega arith))
 
--- after some turns the k entries es stand in the row buffer, and the corner c - 1 is next
-pub record Walking (f₀ : List Float) (w₀ : List ℕ) (f : List Float) (w : List ℕ) (n t : ℕ) (at : Places) (flat : Float) (r k c : ℕ) : Type 0 where
+-- after some turns the k entries es stand in the row, and the corner c - 1 is next
+pub record Walking (m : Elements) (v₀ : List Float) (c₀ : List ℕ) (v : List Float) (w : List ℕ) (r k c : ℕ) : Type 0 where
   pub es : List Entry
-  pub written : Written f₀ w₀ f w at.row at.rowcols k es
-  pub tidy : Tidy n es
-  pub within : c ≤ 3 * t
-  pub corner : 0 < c → get_or (corners_in w₀ t at) (c - 1) 0 ≡ r
-  pub rest : follow (tags_in w₀ n at) flat (vertices_in f₀ n at) (corners_in w₀ t at) r c es ≡ inserted (tags_in w₀ n at) r (pushes flat (vertices_in f₀ n at) (corners_in w₀ t at)) []
+  pub written : Written v₀ c₀ v w k es
+  pub tidy : Tidy (length m.tags.now) es
+  pub within : c ≤ length m.triangles.now
+  pub corner : 0 < c → get_or m.triangles.now (c - 1) 0 ≡ r
+  pub rest : follow m.tags.now m.flat m.vertices.now m.triangles.now r c es ≡ inserted m.tags.now r (pushes_of m) []
 
-module _ (f₀ : List Float) (w₀ : List ℕ) (n t : ℕ) (at : Places) (flat : Float) (r : ℕ) (b : Building f₀ w₀ n t at 0) (l : Linked w₀ n t at) (h : r < n) where
-  long : length (corners_in w₀ t at) ≡ 3 * t
-  long = length_part w₀ at.triangles (3 * t) (omega (arith, b))
-
-  pub walk_none : (c : ℕ) → c ≡ get_or w₀ (at.heads + r) 0 → Walking f₀ w₀ f₀ w₀ n t at flat r 0 c
+module _ (m : Elements) (v₀ : List Float) (c₀ heads links : List ℕ) (r : ℕ) (b : Building m v₀ c₀ 0) (l : Linked m heads links) (h : r < length m.tags.now) where
+  pub walk_none : (c : ℕ) → c ≡ get_or heads r 0 → Walking m v₀ c₀ v₀ c₀ r 0 c
   unfolding values_in columns_in
   walk_none c e =
-      let tags = tags_in w₀ n at in
-      let vs = vertices_in f₀ n at in
-      let ts = corners_in w₀ t at in
-      let g : c ≡ first_from 0 r ts = e ∙ sym (get_d_part w₀ at.heads n r 0 h) ∙ ap (λ (x : List ℕ). get_or x r 0) l.heads ∙ get_or_heads 0 ts n r h in
+      let n = length m.tags.now in
+      let ts = m.triangles.now in
+      let t = length ts / 3 in
+      let g : c ≡ first_from 0 r ts = e ∙ ap (λ (x : List ℕ). get_or x r 0) l.first ∙ get_or_heads 0 ts n r h in
       let s : First ts 0 r c = rw g (first_is ts 0 r ts refl) in
       record {
         es = [];
-        written = record { count = refl; values = sym (splice_nil f₀ at.row); columns = sym (splice_nil w₀ at.rowcols) };
+        written = record { count = refl; values = sym (splice_nil v₀ 0); columns = sym (splice_nil c₀ 0) };
         tidy = tidy_none n;
-        within = omega (arith, s.within, long);
+        within = s.within;
         corner = s.is;
-        rest = rw g (sym (walk_next tags flat vs ts r 0 ts [] refl) ∙ walk_all tags flat vs ts r 0 0 t ts [] (omega arith) long refl);
+        rest = rw g (sym (walk_next m.tags.now m.flat m.vertices.now ts r 0 ts [] refl) ∙ walk_all m.tags.now m.flat m.vertices.now ts r 0 0 t ts [] (omega arith) (omega (arith, b.mesh.whole)) refl);
       }
 
-  module _ (f : List Float) (w : List ℕ) (k c : ℕ) (s : Walking f₀ w₀ f w n t at flat r k c) (p : 0 < c) (f' : List Float) (w' : List ℕ) (k' : ℕ)
-      (a : Written f w f' w' at.row at.rowcols k' (added (tags_in w n at) flat (vertices_in f n at) (corners_in w t at) (c - 1) (row_in f w at k))) where
+  module _ (v : List Float) (w : List ℕ) (k c : ℕ) (s : Walking m v₀ c₀ v w r k c) (p : 0 < c) (v' : List Float) (w' : List ℕ) (k' : ℕ)
+      (a : Written v w v' w' k' (added m.tags.now m.flat m.vertices.now m.triangles.now (c - 1) (entries_in v w k))) where
     -- the entries after the corner
-    next-written : Written f₀ w₀ f' w' at.row at.rowcols k' (added (tags_in w₀ n at) flat (vertices_in f₀ n at) (corners_in w₀ t at) (c - 1) s.es)
+    next-written : Written v₀ c₀ v' w' k' (added m.tags.now m.flat m.vertices.now m.triangles.now (c - 1) s.es)
     unfolding added
     next-written =
-        let tags = tags_in w₀ n at in
-        let vs = vertices_in f₀ n at in
-        let ts = corners_in w₀ t at in
-        let es = added tags flat vs ts (c - 1) s.es in
-        let m : length s.es ≤ length es = by_longer n tags flat vs (triangle_of ts ((c - 1) / 3)) ((c - 1) % 3) s.es in
-        written_then f₀ w₀ at.row at.rowcols f w k s.es s.written f' w' k' es m
-        (rw (tags_stay f₀ w₀ n t at 0 b f w k s.es s.written, vertices_stay f₀ w₀ n t at 0 b f w k s.es s.written, corners_stay f₀ w₀ n t at 0 b f w k s.es s.written, row_read f₀ w₀ n t at 0 b f w k s.es s.written s.tidy) at a)
+        let n = length m.tags.now in
+        let q = triangle_of m.triangles.now ((c - 1) / 3) in
+        let es = added m.tags.now m.flat m.vertices.now m.triangles.now (c - 1) s.es in
+        let f : length s.es ≤ length es = by_longer n m.tags.now m.flat m.vertices.now q ((c - 1) % 3) s.es in
+        written_then v₀ c₀ v w k s.es s.written v' w' k' es f (rw (row_read m v₀ c₀ 0 b v w k s.es s.written s.tidy) at a)
 
     -- the corner after it
-    next-corner : (d : ℕ) → d ≡ get_or w' (at.links + (c - 1)) 0 → d ≡ first_from c r (drop c (corners_in w₀ t at))
+    next-corner : (d : ℕ) → d ≡ get_or links (c - 1) 0 → d ≡ first_from c r (drop c m.triangles.now)
     next-corner d e =
-        let ts = corners_in w₀ t at in
+        let ts = m.triangles.now in
         let i = c - 1 in
-        let j : i < 3 * t = omega (arith, s.within) in
-        let es = added (tags_in w₀ n at) flat (vertices_in f₀ n at) ts i s.es in
         let a1 : suc (0 + i) ≡ c = omega arith in
         let a2 : suc i ≡ c = omega arith in
-        e ∙ sym (get_d_part w' at.links (3 * t) i 0 j)
-        ∙ ap (λ (x : List ℕ). get_or x i 0) (words_before f₀ w₀ at.row at.rowcols f' w' k' es next-written at.links (3 * t) (omega (arith, b)) ∙ l.links)
-        ∙ get_or_links 0 ts i (omega (arith, long))
+        e ∙ ap (λ (x : List ℕ). get_or x i 0) l.next
+        ∙ get_or_links 0 ts i (omega (arith, s.within))
         ∙ ap (λ (x : ℕ). first_from x (get_or ts i 0) (drop (suc i) ts)) a1
         ∙ ap (λ (x : ℕ). first_from c x (drop (suc i) ts)) (s.corner p)
         ∙ ap (λ (x : ℕ). first_from c r (drop x ts)) a2
 
-    pub walk_less : (d : ℕ) → d ≡ get_or w' (at.links + (c - 1)) 0 → ahead (3 * t) d < ahead (3 * t) c
+    pub walk_less : (d : ℕ) → d ≡ get_or links (c - 1) 0 → ahead (length m.triangles.now) d < ahead (length m.triangles.now) c
     walk_less d e =
-        let ts = corners_in w₀ t at in
+        let ts = m.triangles.now in
         let u : First ts c r d = rw (next-corner d e) (first_is ts c r (drop c ts) refl) in
-        ahead-less (3 * t) c d p s.within u.later
+        ahead-less (length ts) c d p s.within u.later
 
-    pub walk_again : (d : ℕ) → d ≡ get_or w' (at.links + (c - 1)) 0 → Walking f₀ w₀ f' w' n t at flat r k' d
+    pub walk_again : (d : ℕ) → d ≡ get_or links (c - 1) 0 → Walking m v₀ c₀ v' w' r k' d
     unfolding added
     walk_again d e =
-        let tags = tags_in w₀ n at in
-        let vs = vertices_in f₀ n at in
-        let ts = corners_in w₀ t at in
+        let n = length m.tags.now in
+        let tags = m.tags.now in
+        let vs = m.vertices.now in
+        let ts = m.triangles.now in
         let q = (c - 1) / 3 in
         let g : d ≡ first_from c r (drop c ts) = next-corner d e in
         let u : First ts c r d = rw g (first_is ts c r (drop c ts) refl) in
         record {
-          es = added tags flat vs ts (c - 1) s.es;
+          es = added tags m.flat vs ts (c - 1) s.es;
           written = next-written;
-          tidy = tidy_by n tags flat vs (triangle_of ts q) ((c - 1) % 3) s.es (triangle-within n ts q b.words_laid.corners (omega (arith, s.within, long))) s.tidy;
-          within = omega (arith, u.within, long);
+          tidy = tidy_by n tags m.flat vs (triangle_of ts q) ((c - 1) % 3) s.es (triangle-within n ts q b.mesh.corners (omega (arith, s.within, b.mesh.whole))) s.tidy;
+          within = u.within;
           corner = u.is;
-          rest = rw g (sym (walk_next tags flat vs ts r c (drop c ts) (added tags flat vs ts (c - 1) s.es) refl) ∙ sym (follow_on tags flat vs ts r c s.es p) ∙ s.rest);
+          rest = rw g (sym (walk_next tags m.flat vs ts r c (drop c ts) (added tags m.flat vs ts (c - 1) s.es) refl) ∙ sym (follow_on tags m.flat vs ts r c s.es p) ∙ s.rest);
         }
 
-  pub walk_done : (f : List Float) (w : List ℕ) (k c : ℕ) → c ≡ 0 → Walking f₀ w₀ f w n t at flat r k c
-      → Written f₀ w₀ f w at.row at.rowcols k (inserted (tags_in w₀ n at) r (pushes flat (vertices_in f₀ n at) (corners_in w₀ t at)) [])
+  pub walk_done : (v : List Float) (w : List ℕ) (k c : ℕ) → c ≡ 0 → Walking m v₀ c₀ v w r k c → Written v₀ c₀ v w k (inserted m.tags.now r (pushes_of m) [])
   unfolding follow
-  walk_done f w k c e s = rw (← s.rest, e) s.written
+  walk_done v w k c e s = rw (← s.rest, e) s.written

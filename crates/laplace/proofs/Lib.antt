@@ -6,4 +6,3 @@ pub mod LawsWalk
 pub mod LawsPlaced
 pub mod LawsMatrix
 pub mod LawsRight
-pub mod LawsAssemble

@@ -1,6 +1,7 @@
 -- The corners of each vertex in rising order, as heads and links: a corner by its number + 1, and 0 for none. Definitions only. Assumes nothing.
-use Rattle.std.specs.Prelude.{ℕ, zero, suc, List, [], ◌∷◌, ◌++◌, eqb}
+use Rattle.std.specs.Prelude.{ℕ, zero, suc, ◌^◌, ◌<◌, ◌≡◌, List, [], ◌∷◌, ◌++◌, length, eqb}
 use Rattle.binary64.specs.Number.{pick}
+use Rattle.laplace.specs.Matrix.{AllBelow}
 
 -- the first corner that is vertex r, of those in ts, which are numbered from k
 unfoldable pub first_from : ℕ → ℕ → List ℕ → ℕ
@@ -24,3 +25,9 @@ heads_of ts n = heads_from 0 ts n
 
 abbrev pub links_of : List ℕ → List ℕ
 links_of ts = links_from 0 ts
+
+-- corners of n vertices, with a place for the link of each
+pub record Linkable (ts : List ℕ) (n links : ℕ) : Type 0 where
+  pub few : length ts < 2 ^ 32
+  pub places : links ≡ length ts
+  pub corners : AllBelow n ts

@@ -2,9 +2,11 @@ pub mod Mesh
 pub mod Assembly
 pub mod Matrix
 pub mod Element
+pub mod Elements
 pub mod Laid
 pub mod Corners
 pub mod Placed
 pub mod Row
+pub mod Rows
 pub mod Whole
 pub mod Right

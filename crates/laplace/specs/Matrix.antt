@@ -11,7 +11,7 @@ use Rattle.binary64.specs.Constants.{one}
 use Rattle.binary64.specs.Number.{pick, abs_of}
 use Rattle.sparse.specs.Sparse.{Entry, entry}
 use Rattle.laplace.specs.Mesh.{vertex, free}
-use Rattle.laplace.specs.Assembly.{Push, push, nine, stiff, slope, area2, triangle_pushes, pushes, insert, inserted, row, rows}
+use Rattle.laplace.specs.Assembly.{Push, nine, stiff, slope, area2, triangle_pushes, pushes, insert, inserted, row, rows}
 
 -- ---- what stands at a column
 

@@ -1,5 +1,5 @@
 -- The pushes of a triangle by its stiffness, as the right side takes them. Definitions only. Assumes nothing.
-use Rattle.std.specs.Prelude.{ℕ, ◌+◌, ◌≤◌, List, [], ◌∷◌, Bool, ◌&&◌, eqb, Float, length}
+use Rattle.std.specs.Prelude.{ℕ, List, [], ◌∷◌, Bool, ◌&&◌, eqb, Float, Option, Some, None}
 use Rattle.binary64.specs.Number.{pick}
 use Rattle.laplace.specs.declared.element.Side.{Side}
 use Rattle.laplace.specs.declared.element.Stiff.{Stiff}
@@ -15,17 +15,13 @@ coupled_by tags p rhs = coupled held_value tags p rhs
 abbrev pub side_pushes : ℕ → Triangle → Side → List Push
 side_pushes v q s = push v q.i s.i ∷ push v q.j s.j ∷ push v q.k s.k ∷ []
 
-unfoldable pub stiff_pushes : Triangle → Stiff → List Push
-stiff_pushes q s = pick s.skipped [] (nine q.i q.j q.k s.ii s.ij s.ik s.jj s.jk s.kk)
+unfoldable pub stiff_pushes : Triangle → Option Stiff → List Push
+stiff_pushes q None = []
+stiff_pushes q (Some s) = nine q.i q.j q.k s.ii s.ij s.ik s.jj s.jk s.kk
 
 -- its corners are free, so that it couples nothing
 unfoldable pub all_free : List ℕ → Triangle → Bool
 all_free tags q = free tags q.i && free tags q.j && free tags q.k
-
--- the n numbers of the right side and the n tags fit
-pub record Couples (floats : List Float) (words : List ℕ) (n right tags : ℕ) : Type 0 where
-  pub floats_fit : right + n ≤ length floats
-  pub words_fit : tags + n ≤ length words
 
 -- the number y of a vertex with a tag, once held vertices have their value
 unfoldable pub settled_value : ℕ → Float → Float

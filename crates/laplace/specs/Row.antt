@@ -1,9 +1,10 @@
--- A row as it is built in the row buffer: entries by their columns in the words and their values in the floats, and what a corner of the mesh adds to them. Definitions only. Assumes nothing.
-use Rattle.std.specs.Prelude.{ℕ, zero, suc, ◌+◌, ◌*◌, ◌/◌, ◌%◌, ◌≤◌, ◌≡◌, List, [], ◌∷◌, ltb, length, Float}
+-- A row as it is built: entries by their columns and their values, and what a corner of the mesh adds to them. Definitions only. Assumes nothing.
+use Rattle.std.specs.Prelude.{ℕ, zero, suc, ◌*◌, ◌/◌, ◌%◌, ◌≤◌, ◌≡◌, List, [], ◌∷◌, ltb, length, take, Float, Option, Some, None}
 use Rattle.binary64.specs.Number.{pick}
 use Rattle.stretch.specs.Stretch.{part, splice}
 use Rattle.sparse.specs.Sparse.{Entry, entries}
 use Rattle.laplace.specs.declared.Places.{Places}
+use Rattle.laplace.specs.declared.element.Elements.{Elements}
 use Rattle.laplace.specs.declared.element.Stiff.{Stiff}
 use Rattle.laplace.specs.declared.element.Side.{Side}
 use Rattle.laplace.specs.declared.element.Triangle.{Triangle}
@@ -11,8 +12,8 @@ use Rattle.laplace.specs.Mesh.{free}
 use Rattle.laplace.specs.Assembly.{insert}
 use Rattle.laplace.specs.Matrix.{Rising, Below}
 use Rattle.laplace.specs.Element.{stiff_in, triangle_of}
+use Rattle.laplace.specs.Elements.{IsMesh}
 use Rattle.laplace.specs.Corners.{heads_of, links_of}
-use Rattle.laplace.specs.Laid.{LaidFloats, LaidWords}
 use Rattle.laplace.specs.Placed.{values_in, columns_in}
 
 -- ---- one insertion
@@ -22,24 +23,24 @@ unfoldable pub position_of : ℕ → List ℕ → ℕ
 position_of j [] = 0
 position_of j (c ∷ cs) = pick (ltb c j) (suc (position_of j cs)) 0
 
--- the k entries with columns from c in the words and values from v in the floats
-abbrev pub entries_at : List Float → List ℕ → ℕ → ℕ → ℕ → List Entry
-entries_at floats words v c k = entries (part words c k) (part floats v k)
+-- the first k entries of columns and values
+abbrev pub entries_in : List Float → List ℕ → ℕ → List Entry
+entries_in values cols k = entries (take k cols) (take k values)
 
 -- there is room for k entries, and for the entries es
-pub record Room (floats : List Float) (words : List ℕ) (v c k : ℕ) (es : List Entry) : Type 0 where
-  pub floats_now : v + k ≤ length floats
-  pub words_now : c + k ≤ length words
-  pub floats_then : v + length es ≤ length floats
-  pub words_then : c + length es ≤ length words
+pub record Room (values : List Float) (cols : List ℕ) (k : ℕ) (es : List Entry) : Type 0 where
+  pub values_now : k ≤ length values
+  pub cols_now : k ≤ length cols
+  pub values_then : length es ≤ length values
+  pub cols_then : length es ≤ length cols
 
--- the k entries es were written, and nothing else
-pub record Written (floats : List Float) (words : List ℕ) (floats' : List Float) (words' : List ℕ) (v c k : ℕ) (es : List Entry) : Type 0 where
+-- the k entries es were written to the front, and nothing else
+pub record Written (v : List Float) (c : List ℕ) (v' : List Float) (c' : List ℕ) (k : ℕ) (es : List Entry) : Type 0 where
   pub count : k ≡ length es
-  pub values : floats' ≡ splice floats v (values_in es)
-  pub columns : words' ≡ splice words c (columns_in es)
+  pub values : v' ≡ splice v 0 (values_in es)
+  pub columns : c' ≡ splice c 0 (columns_in es)
 
--- ---- the mesh and the row buffer in the work
+-- ---- the mesh in the work
 
 abbrev pub vertices_in : List Float → ℕ → Places → List Float
 vertices_in floats n at = part floats at.vertices (2 * n)
@@ -50,19 +51,20 @@ corners_in words t at = part words at.triangles (3 * t)
 abbrev pub tags_in : List ℕ → ℕ → Places → List ℕ
 tags_in words n at = part words at.tags n
 
-abbrev pub row_in : List Float → List ℕ → Places → ℕ → List Entry
-row_in floats words at k = entries_at floats words at.row at.rowcols k
+-- ---- the row that is built
 
 -- columns rise and are below n, so there are at most n
 pub record Tidy (n : ℕ) (es : List Entry) : Type 0 where
   pub rising : Rising 0 es
   pub below : Below n es
 
-pub record Building (floats : List Float) (words : List ℕ) (n t : ℕ) (at : Places) (k : ℕ) : Type 0 where
-  pub floats_laid : LaidFloats floats n t at
-  pub words_laid : LaidWords words n t at
-  pub within : k ≤ n
-  pub tidy : Tidy n (row_in floats words at k)
+-- k tidy entries stand in a row with a place for each vertex of the mesh
+pub record Building (e : Elements) (values : List Float) (cols : List ℕ) (k : ℕ) : Type 0 where
+  pub mesh : IsMesh e
+  pub values_long : length values ≡ length e.tags.now
+  pub cols_long : length cols ≡ length e.tags.now
+  pub within : k ≤ length e.tags.now
+  pub tidy : Tidy (length e.tags.now) (entries_in values cols k)
 
 -- ---- what a corner adds
 
@@ -81,10 +83,15 @@ side_of s zero = record { i = s.ii; j = s.ij; k = s.ik }
 side_of s (suc zero) = record { i = s.ij; j = s.jj; k = s.jk }
 side_of s (suc (suc e)) = record { i = s.ik; j = s.jk; k = s.kk }
 
--- the entries of corner e of a triangle
-unfoldable pub added_by : List ℕ → Float → List Float → Triangle → ℕ → List Entry → List Entry
+-- the entries of corner e of a triangle, none where it is skipped
+unfoldable pub sides_placed : List ℕ → Triangle → ℕ → Option Stiff → List Entry → List Entry
 unfolding three_placed
-added_by tags flat vs q e es = let s = stiff_in flat vs q in pick s.skipped es (three_placed tags q (side_of s e) es)
+sides_placed tags q e None es = es
+sides_placed tags q e (Some s) es = three_placed tags q (side_of s e) es
+
+unfoldable pub added_by : List ℕ → Float → List Float → Triangle → ℕ → List Entry → List Entry
+unfolding sides_placed
+added_by tags flat vs q e es = sides_placed tags q e (stiff_in flat vs q) es
 
 -- those of corner c of the mesh
 unfoldable pub added : List ℕ → Float → List Float → List ℕ → ℕ → List Entry → List Entry
@@ -93,6 +100,6 @@ added tags flat vs ts c es = added_by tags flat vs (triangle_of ts (c / 3)) (c %
 
 -- ---- a vertex's corners, by heads and links
 
-pub record Linked (words : List ℕ) (n t : ℕ) (at : Places) : Type 0 where
-  pub heads : part words at.heads n ≡ heads_of (corners_in words t at) n
-  pub links : part words at.links (3 * t) ≡ links_of (corners_in words t at)
+pub record Linked (e : Elements) (heads links : List ℕ) : Type 0 where
+  pub first : heads ≡ heads_of e.triangles.now (length e.tags.now)
+  pub next : links ≡ links_of e.triangles.now

@@ -1,13 +1,10 @@
 // The linear triangle (the P1 element): what its corners push on each other.
-ghost use Rattle.std.specs.Prelude.{◌≡◌, ◌+◌, ◌*◌, ◌≤◌, ◌<◌, length};
-ghost use Rattle.stretch.specs.Stretch.{part};
+ghost use Rattle.std.specs.Prelude.{◌≡◌, ◌+◌, ◌*◌, ◌<◌, length};
 ghost use Rattle.laplace.specs.Mesh.{vertex};
-ghost use Rattle.laplace.specs.Matrix.{AllBelow};
 ghost use Rattle.laplace.specs.Assembly as Assembly;
 ghost use Rattle.laplace.specs.Element as Element;
 ghost use Rattle.laplace.specs.Row as Row;
 
-use crate::corners::wide;
 use mesh::Slope;
 use plane::Point;
 
@@ -33,10 +30,9 @@ pub fn stiffness(inv: f64, s: Slope, t: Slope) -> f64
     (s.b * t.b + s.c * t.c) * inv * 0.5
 }
 
-// What the corners of a triangle push on each other; nothing where it is skipped, since twice its area is below `flat` in magnitude.
+// What the corners of a triangle push on each other.
 #[derive(Clone, Copy)]
 pub struct Stiff {
-    pub skipped: bool,
     pub ii: f64,
     pub ij: f64,
     pub ik: f64,
@@ -45,23 +41,26 @@ pub struct Stiff {
     pub kk: f64,
 }
 
-pub fn stiff_of(flat: f64, a: Point, b: Point, c: Point) -> Stiff
+// Nothing where the triangle is skipped, since twice its area is below `flat` in magnitude.
+pub fn stiff_of(flat: f64, a: Point, b: Point, c: Point) -> Option<Stiff>
     ensures { result ≡ Element.stiff_of flat a b c }
 {
     let si = slope_of(b, c);
     let sj = slope_of(c, a);
     let sk = slope_of(a, b);
     let area = binary64::abs(area2(si, sj));
+    if area < flat {
+        return None;
+    }
     let inv = 1.0 / area;
-    Stiff {
-        skipped: area < flat,
+    Some(Stiff {
         ii: stiffness(inv, si, si),
         ij: stiffness(inv, si, sj),
         ik: stiffness(inv, si, sk),
         jj: stiffness(inv, sj, sj),
         jk: stiffness(inv, sj, sk),
         kk: stiffness(inv, sk, sk),
-    }
+    })
 }
 
 // What one corner pushes on each of the three.
@@ -72,40 +71,29 @@ pub struct Side {
     pub k: f64,
 }
 
-pub fn side_of(s: Stiff, corner: usize) -> Side
-    ensures { result ≡ Row.side_of s corner }
-{
-    if corner == 0 {
-        return Side {
-            i: s.ii,
-            j: s.ij,
-            k: s.ik,
-        };
-    }
-    if corner == 1 {
-        return Side {
-            i: s.ij,
-            j: s.jj,
-            k: s.jk,
-        };
-    }
-    Side {
-        i: s.ik,
-        j: s.jk,
-        k: s.kk,
-    }
-}
-
-// The vertex i of the n whose coordinates start at `at`.
-pub fn vertex_at(floats: &[f64], at: usize, n: usize, i: usize) -> Point
-    requires { (at + 2 * n ≤ length floats.now) × (i < n) }
-    ensures { result ≡ vertex (part floats.now at (2 * n)) i }
-{
-    let a = at + 2 * i;
-    let b = a + 1;
-    Point {
-        x: floats[a],
-        y: floats[b],
+impl Stiff {
+    pub fn side(self, corner: usize) -> Side
+        ensures { result ≡ Row.side_of self corner }
+    {
+        if corner == 0 {
+            return Side {
+                i: self.ii,
+                j: self.ij,
+                k: self.ik,
+            };
+        }
+        if corner == 1 {
+            return Side {
+                i: self.ij,
+                j: self.jj,
+                k: self.jk,
+            };
+        }
+        Side {
+            i: self.ik,
+            j: self.jk,
+            k: self.kk,
+        }
     }
 }
 
@@ -117,28 +105,47 @@ pub struct Triangle {
     pub k: u32,
 }
 
-// Triangle q of the t whose corners start at `at`, each below n.
-pub fn triangle_at(words: &[u32], at: usize, t: usize, q: usize, n: usize) -> Triangle
-    requires { (at + 3 * t ≤ length words.now) × (q < t) × AllBelow n (part words.now at (3 * t)) }
-    ensures { (result ≡ Element.triangle_of (part words.now at (3 * t)) q) × Element.Within n result }
-{
-    let a = at + 3 * q;
-    let b = a + 1;
-    let c = a + 2;
-    Triangle {
-        i: words[a],
-        j: words[b],
-        k: words[c],
-    }
+// A mesh that is assembled: x and y of each vertex, three corners of each triangle, a tag of each vertex, and twice the area in magnitude below which a triangle is skipped.
+#[derive(Clone, Copy)]
+pub struct Elements<'a> {
+    pub vertices: &'a [f64],
+    pub triangles: &'a [u32],
+    pub tags: &'a [u32],
+    pub flat: f64,
 }
 
-// Its stiffness in the mesh whose n vertices start at `at`.
-pub fn stiff_at(floats: &[f64], at: usize, n: usize, flat: f64, q: Triangle) -> Stiff
-    requires { (at + 2 * n ≤ length floats.now) × Element.Within n q }
-    ensures { result ≡ Element.stiff_in flat (part floats.now at (2 * n)) q }
-{
-    let a = vertex_at(floats, at, n, wide(q.i));
-    let b = vertex_at(floats, at, n, wide(q.j));
-    let c = vertex_at(floats, at, n, wide(q.k));
-    stiff_of(flat, a, b, c)
+impl Elements<'_> {
+    pub fn vertex(&self, i: usize) -> Point
+        requires { 2 * i + 1 < length self.now.vertices.now }
+        ensures { result ≡ vertex self.now.vertices.now i }
+    {
+        Point {
+            x: self.vertices[2 * i],
+            y: self.vertices[2 * i + 1],
+        }
+    }
+
+    // Triangle q.
+    pub fn triangle(&self, q: usize) -> Triangle
+        requires { 3 * q + 2 < length self.now.triangles.now }
+        ensures { result ≡ Element.triangle_of self.now.triangles.now q }
+    {
+        let at = 3 * q;
+        Triangle {
+            i: self.triangles[at],
+            j: self.triangles[at + 1],
+            k: self.triangles[at + 2],
+        }
+    }
+
+    // What the corners of a triangle push on each other.
+    pub fn stiff(&self, q: Triangle) -> Option<Stiff>
+        requires { (length self.now.vertices.now ≡ 2 * length self.now.tags.now) × Element.Within (length self.now.tags.now) q }
+        ensures { result ≡ Element.stiff_in self.now.flat self.now.vertices.now q }
+    {
+        let a = self.vertex(q.i as usize);
+        let b = self.vertex(q.j as usize);
+        let c = self.vertex(q.k as usize);
+        stiff_of(self.flat, a, b, c)
+    }
 }

@@ -4,7 +4,7 @@
 pub mod corners;
 pub mod element;
 
-// Where the stretches of a mesh of n vertices and t triangles, of its matrix and of its right side start.
+// Where the stretches of a mesh of n vertices and t triangles, of its matrix and of its right side start. Places and not slices: both buffers are lent whole, in one order.
 #[derive(Clone, Copy)]
 pub struct Places {
     // In the floats: 2n coordinates, n of the right side, n of a row that is built, and 9t + n values of the matrix.

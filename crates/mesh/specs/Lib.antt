@@ -3,3 +3,4 @@ pub mod Element
 pub mod Pair
 pub mod Work
 pub mod WorkLaws
+pub mod Stands

@@ -1,6 +1,6 @@
 -- A mesh by its flat lists, as the sheet and the run's work hold them: vertices x, y; triangles three corners each; neighbours one for each edge; a tag for each vertex.
 -- Edge e joins corner e and corner (e + 1) mod 3 (document 01, Sheet). Definitions only. Assumes nothing.
-use Rattle.std.specs.Prelude.{ℕ, ◌+◌, ◌-◌, ◌*◌, ◌%◌, Bool, not, List, eqb, get_or, Float}
+use Rattle.std.specs.Prelude.{ℕ, ◌+◌, ◌*◌, ◌/◌, ◌%◌, Bool, not, List, eqb, get_or, length, Option, Some, None, Float}
 use Rattle.std.specs.Float.{nan}
 use Rattle.binary64.specs.Constants.{plus_zero, one}
 use Rattle.binary64.specs.Number.{pick}
@@ -20,6 +20,13 @@ neighbour ns t e = get_or ns (3 * t + e) 0
 -- −1, as the word of an i32's bits
 abbrev pub no_neighbour : ℕ
 no_neighbour = 4294967295
+
+-- the triangle that a neighbour's word names
+abbrev pub triangle_of : ℕ → Option ℕ
+triangle_of w = pick (eqb w no_neighbour) None (Some w)
+
+abbrev pub triangle_count : List ℕ → ℕ
+triangle_count ts = length ts / 3
 
 -- the corner at an edge's far end
 abbrev pub onward : ℕ → ℕ

@@ -1,25 +1,24 @@
-// A mesh in the lent buffers: vertices in the floats; triangles, neighbours and tags in the words.
+// A mesh: vertices, triangles, neighbours and tags, each a slice.
 #![tactic(auto)]
 
 ghost use Rattle.std.specs.Prelude.{◌≡◌, ◌+◌, ◌*◌, ◌<◌, ◌≤◌, length};
 ghost use Rattle.mesh.specs.Mesh as Lists;
-ghost use Rattle.mesh.specs.Work.{vertices_of, triangles_of, neighbours_of, tags_of, Linked, Corner};
+ghost use Rattle.mesh.specs.Work.{IsMesh, Corner};
 
 use plane::Point;
 
-// How many vertices and triangles there are, and where each list starts.
+// x and y of each vertex; the three corners of each triangle; the neighbour over each edge, or none; the tag of each vertex.
 #[derive(Clone, Copy)]
-pub struct Mesh {
-    pub n: usize,
-    pub t: usize,
-    pub vertices: usize,
-    pub triangles: usize,
-    pub neighbours: usize,
-    pub tags: usize,
+pub struct Mesh<'a> {
+    pub vertices: &'a [f64],
+    pub triangles: &'a [u32],
+    pub neighbours: &'a [u32],
+    pub tags: &'a [u32],
+    pub ghost whole: { IsMesh vertices.now triangles.now neighbours.now tags.now },
 }
 
 // The word of an edge with no neighbour: −1, as the bits of an i32.
-pub const NONE: u32 = 4294967295;
+const NONE: u32 = 4294967295;
 
 // The gradient of a corner's shape function times twice the area.
 #[derive(Clone, Copy)]
@@ -28,49 +27,91 @@ pub struct Slope {
     pub c: f64,
 }
 
-pub fn vertex(floats: &[f64], m: Mesh, i: usize) -> Point
-    requires { (m.vertices + 2 * m.n ≤ length floats.now) × (i < m.n) }
-    ensures { result ≡ Lists.vertex (vertices_of floats.now m) i }
-{
-    let k = m.vertices + 2 * i;
-    let l = k + 1;
-    Point {
-        x: floats[k],
-        y: floats[l],
+impl<'a> Mesh<'a> {
+    ghost use Rattle.mesh.specs.Work.{Meshed, first_at};
+    ghost use Rattle.mesh.specs.Stands.{Stands};
+
+    // The mesh of n vertices and t triangles whose lists stand first in two buffers.
+    pub fn of(floats: &'a [f64], words: &'a [u32], n: usize, t: usize) -> Mesh<'a>
+        requires { Meshed floats.now words.now (first_at n t) }
+        ensures { Stands floats.now words.now (first_at n t) result }
+    {
+        Mesh {
+            vertices: &floats[..2 * n],
+            triangles: &words[..3 * t],
+            neighbours: &words[3 * t..6 * t],
+            tags: &words[6 * t..6 * t + n],
+        }
     }
-}
 
-// A word as an index.
-pub fn wide(w: u32) -> usize
-    ensures { result ≡ w }
-{
-    w as usize
-}
+    pub fn vertex_count(&self) -> usize
+        ensures { result ≡ length self.now.tags.now }
+    {
+        self.tags.len()
+    }
 
-// The vertex number at corner e of triangle t.
-pub fn corner(words: &[u32], m: Mesh, t: usize, e: usize) -> usize
-    requires { (Linked words.now m) × (t < m.t) × (e < 3) }
-    ensures { Corner result m.n (Lists.corner (triangles_of words.now m) t e) }
-{
-    let k = m.triangles + (3 * t + e);
-    wide(words[k])
-}
+    pub fn triangle_count(&self) -> usize
+        ensures { result ≡ Lists.triangle_count self.now.triangles.now }
+    {
+        self.triangles.len() / 3
+    }
 
-// The word of the neighbour at edge e of triangle t.
-pub fn neighbour(words: &[u32], m: Mesh, t: usize, e: usize) -> u32
-    requires { (Linked words.now m) × (t < m.t) × (e < 3) }
-    ensures { result ≡ Lists.neighbour (neighbours_of words.now m) t e }
-{
-    let k = m.neighbours + (3 * t + e);
-    words[k]
-}
+    #[tactic(auto, unfolding(crate::specs::Mesh::vertex))]
+    pub fn vertex(&self, i: usize) -> Point
+        requires { i < length self.now.tags.now }
+        ensures { result ≡ Lists.vertex self.now.vertices.now i }
+    {
+        Point {
+            x: self.vertices[2 * i],
+            y: self.vertices[2 * i + 1],
+        }
+    }
 
-pub fn tag(words: &[u32], m: Mesh, i: usize) -> u32
-    requires { (m.tags + m.n ≤ length words.now) × (i < m.n) }
-    ensures { result ≡ Lists.tag_of (tags_of words.now m) i }
-{
-    let k = m.tags + i;
-    words[k]
+    // The vertex number at corner e of triangle t.
+    pub fn corner(&self, t: usize, e: usize) -> usize
+        requires { (t < Lists.triangle_count self.now.triangles.now) × (e < 3) }
+        ensures { Corner result (length self.now.tags.now) (Lists.corner self.now.triangles.now t e) }
+    {
+        self.triangles[3 * t + e] as usize
+    }
+
+    // The vertex at corner e of triangle t.
+    pub fn corner_point(&self, t: usize, e: usize) -> Point
+        requires { (t < Lists.triangle_count self.now.triangles.now) × (e < 3) }
+        ensures { result ≡ Lists.vertex self.now.vertices.now (Lists.corner self.now.triangles.now t e) }
+    {
+        let i = self.corner(t, e);
+        self.vertex(i)
+    }
+
+    // The word of the neighbour at edge e of triangle t.
+    #[tactic(auto, unfolding(crate::specs::Mesh::neighbour))]
+    pub fn neighbour_word(&self, t: usize, e: usize) -> u32
+        requires { (t < Lists.triangle_count self.now.triangles.now) × (e < 3) }
+        ensures { result ≡ Lists.neighbour self.now.neighbours.now t e }
+    {
+        self.neighbours[3 * t + e]
+    }
+
+    // The triangle over edge e of triangle t.
+    pub fn neighbour(&self, t: usize, e: usize) -> Option<usize>
+        requires { (t < Lists.triangle_count self.now.triangles.now) × (e < 3) }
+        ensures { result ≡ Lists.triangle_of (Lists.neighbour self.now.neighbours.now t e) }
+    {
+        let word = self.neighbour_word(t, e);
+        if word == NONE {
+            return None;
+        }
+        Some(word as usize)
+    }
+
+    #[tactic(auto, unfolding(crate::specs::Mesh::tag_of))]
+    pub fn tag(&self, i: usize) -> u32
+        requires { i < length self.now.tags.now }
+        ensures { result ≡ Lists.tag_of self.now.tags.now i }
+    {
+        self.tags[i]
+    }
 }
 
 // The corner at an edge's far end.

@@ -1,7 +1,6 @@
 -- Laws of one pass: which one it is, and what each kind does to the counts, the ends and the triangle walked in. Assumes nothing.
-use Rattle.std.specs.Prelude.{ℕ, ◌+◌, ◌-◌, ◌*◌, ◌≤◌, ◌<◌, ◌≡◌, refl, ◌≢◌, Bool, true, false, not, List, [], ◌∷◌, ◌++◌, eqb, leb, ltb, length, Float}
+use Rattle.std.specs.Prelude.{ℕ, ◌+◌, ◌-◌, ◌*◌, ◌≤◌, ◌<◌, ◌≡◌, refl, ◌≢◌, Bool, true, false, not, List, [], ◌∷◌, ◌++◌, eqb, leb, ltb, length, Float, Option, Some, None}
 use Rattle.std.proofs.Common.{arith, le_refl, sym, ap, append-nil, length-append, eqb-true, leb-false, ltb-false}
-use Rattle.std.proofs.Math.Option.{Option, none, some}
 use Rattle.std.proofs.lemmas.Bool.{eqb-false, not-true, not-false}
 use Rattle.binary64.specs.Number.{pick}
 use Rattle.plane.specs.declared.Point.{Point}
@@ -10,11 +9,10 @@ use Rattle.conjugate.specs.Solver as Solver
 use Rattle.conjugate.specs.Solver.{Turn, halted, reached, moved}
 use Rattle.gradient.specs.Gradient.{gradients}
 use Rattle.pde.specs.Bounds.{StartIn, containing_in, pick_start_in}
-use Rattle.pde.specs.declared.Start.{Start}
 use Rattle.pde.specs.declared.Walk.{Walk}
 use Rattle.pde.specs.declared.Beyond.{Beyond}
 use Rattle.pde.specs.declared.Crossing.{Crossing}
-use Rattle.pde.specs.Start.{triangle_containing, pick_start}
+use Rattle.pde.specs.Start.{triangle_containing, pick_start, entry}
 use Rattle.pde.specs.Crossing.{crossing}
 use Rattle.pde.specs.PathLaws.{gone_points}
 use Rattle.pde.specs.Path.{closes, ended, gone, adds, walked}
@@ -22,6 +20,7 @@ use Rattle.model.specs.Task.{Task, triangle_count}
 use Rattle.model.specs.Space.{factor}
 use Rattle.model.specs.Run.{State, Field, Trail, state, rule, matrix_of, solved, solving, set_out, start_from, starting, crossed, crossing_pass, next_by, next_of, pass_by, pass, finished}
 use Rattle.model.specs.SolvedPlace.{solved_place}
+use Rattle.pde.specs.declared.Entry.{Entry}
 
 -- ---- which pass is next
 
@@ -125,19 +124,19 @@ solving_norms c f = solved_norms c.limit f (Solver.pass flat (matrix_of c) c.tol
 
 -- what holds of the trail after the start pass: with a start in one of the triangles, or ended with 8 or 9
 pub starting_elim : (P : Trail → Type 0) (c : Task) (us : List Float)
-    → ((p : Point) (t e : ℕ) → t < triangle_count c → e ≤ 3 → P (set_out (Start.At p t e) 0 (gradients flat c.vertices us c.triangles)))
-    → ((k : ℕ) → 0 < k → k ≤ 9 → P (set_out Start.Nothing k (gradients flat c.vertices us c.triangles)))
+    → ((p : Point) (t e : ℕ) → t < triangle_count c → e ≤ 3 → P (set_out (entry p t e) 0 (gradients flat c.vertices us c.triangles)))
+    → ((k : ℕ) → 0 < k → k ≤ 9 → P (set_out None k (gradients flat c.vertices us c.triangles)))
     → P (starting c us)
 unfolding starting start_from
 starting_elim P c us found lost = given c.start
   where
-    from : (s : Start) (k : ℕ) → 0 < k → k ≤ 9 → StartIn (triangle_count c) s → P (set_out s k (gradients flat c.vertices us c.triangles))
-    from (Start.At p t e) k z m h = found p t e h.0 h.1
-    from Start.Nothing k z m h = lost k z m
+    from : (s : Option Entry) (k : ℕ) → 0 < k → k ≤ 9 → StartIn (triangle_count c) s → P (set_out s k (gradients flat c.vertices us c.triangles))
+    from (Some at) k z m h = found at.point at.triangle at.edge h.0 h.1
+    from None k z m h = lost k z m
 
     given : (g : Option Point) → P (start_from g c us (gradients flat c.vertices us c.triangles))
-    given (some p) = from (triangle_containing c.vertices c.triangles (triangle_count c) p) 8 (omega arith) (omega arith) (containing_in _ _ _ _)
-    given none = from (pick_start c.vertices c.triangles c.neighbours c.tags (triangle_count c) us) 9 (omega arith) (omega arith) (pick_start_in _ _ _ _ _ _)
+    given (Some p) = from (triangle_containing c.vertices c.triangles (triangle_count c) p) 8 (omega arith) (omega arith) (containing_in _ _ _ _)
+    given None = from (pick_start c.vertices c.triangles c.neighbours c.tags (triangle_count c) us) 9 (omega arith) (omega arith) (pick_start_in _ _ _ _ _ _)
 
 -- ---- a crossing
 
@@ -161,7 +160,7 @@ gone_last : (w : Walk) (q : Point) (b : Beyond) (k : ℕ) → (gone true w q b k
 gone_last w q Beyond.Border k = omega arith
 gone_last w q Beyond.Unnamed k = omega arith
 gone_last w q Beyond.Above k = omega arith
-gone_last w q (Beyond.Into t e) k = omega arith
+gone_last w q (Beyond.Into t) k = omega arith
 
 pub walked_last : (room : ℕ) (w : Walk) (x : Crossing) → (walked room true w x).end ≢ 0
 walked_last room w x =
@@ -217,7 +216,7 @@ gone-end : (last : Bool) (w : Walk) (q : Point) (b : Beyond) (k : ℕ) → (gone
 gone-end last w q Beyond.Border k = omega arith
 gone-end last w q Beyond.Unnamed k = omega arith
 gone-end last w q Beyond.Above k = omega arith
-gone-end last w q (Beyond.Into t e) k = go last
+gone-end last w q (Beyond.Into t) k = go last
   where
     go : (b : Bool) → pick {A = ℕ} b 6 0 ≤ 9
     go true = omega arith

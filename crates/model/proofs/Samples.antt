@@ -1,13 +1,10 @@
 -- Document 01's samples S1 to S6 and S8 to S10, computed from the definitions: what `spiral` prints, the counter machine, and what the sheet's reader accepts and refuses. S7 is the square root's.
 -- Assumes nothing.
-use Rattle.std.specs.Prelude.{ℕ, ◌-◌, ◌≡◌, refl, List, [], ◌∷◌, Float}
-use Rattle.std.proofs.Math.Option.{none, some}
+use Rattle.std.specs.Prelude.{ℕ, ◌-◌, ◌≡◌, refl, List, [], ◌∷◌, Float, Option, Some, None}
 use Rattle.std.specs.Float.{nan, binary64}
 use Rattle.std.specs.Float.Ieee.{of_bits, to_bits}
 use Rattle.plane.specs.Plane.{point}
 use Rattle.pde.specs.Path.{coordinates_of, length_from, length_of}
-use Rattle.format.specs.declared.Whole.{Whole}
-use Rattle.format.specs.declared.Real.{Real}
 use Rattle.format.specs.declared.Settings.{Settings}
 use Rattle.format.specs.Content.{Content}
 use Rattle.format.specs.Sheet.{accepted, refused}
@@ -63,18 +60,18 @@ behind_unused s = record {
 abbrev nothing : Settings → Content
 nothing s = record { vertices = []; triangles = []; neighbours = []; tags = []; settings = s }
 
-abbrev settings : Whole → Real → Float → Real → Real → ℕ → Settings
-settings limit tolerance step x y room = record { limit = limit; tolerance = tolerance; step = Real.Given step; x = x; y = y; room = Whole.Given room }
+abbrev settings : Option ℕ → Option Float → Float → Option Float → Option Float → ℕ → Settings
+settings limit tolerance step x y room = record { limit = limit; tolerance = tolerance; step = Some step; x = x; y = y; room = Some room }
 
 -- S1's settings but for the room, and but for the start
 abbrev of_room : ℕ → Settings
-of_room room = settings Whole.Absent Real.Absent little (Real.Given half) (Real.Given half) room
+of_room room = settings None None little (Some half) (Some half) room
 
-abbrev of_start : Real → Real → Settings
-of_start x y = settings Whole.Absent Real.Absent little x y 100
+abbrev of_start : Option Float → Option Float → Settings
+of_start x y = settings None None little x y 100
 
 abbrev start_at : Float → Float → Content
-start_at x y = triangle (of_start (Real.Given x) (Real.Given y))
+start_at x y = triangle (of_start (Some x) (Some y))
 
 abbrev pub s1 : Content
 s1 = triangle (of_room 100)
@@ -85,11 +82,11 @@ s2 room = triangle (of_room room)
 
 -- S3: limit 0
 abbrev pub s3 : Content
-s3 = triangle (settings (Whole.Given 0) Real.Absent little (Real.Given half) (Real.Given half) 100)
+s3 = triangle (settings (Some 0) None little (Some half) (Some half) 100)
 
 -- S4: tolerance 0
 abbrev pub s4 : Content
-s4 = triangle (settings Whole.Absent (Real.Given (float 0)) little (Real.Given half) (Real.Given half) 100)
+s4 = triangle (settings None (Some (float 0)) little (Some half) (Some half) 100)
 
 -- S6: n = T = 0
 abbrev pub s6 : Content
@@ -97,11 +94,11 @@ s6 = nothing (of_room 100)
 
 -- S9: step −0
 abbrev pub s9 : Content
-s9 = triangle (settings Whole.Absent Real.Absent minus_zero (Real.Given half) (Real.Given half) 100)
+s9 = triangle (settings None None minus_zero (Some half) (Some half) 100)
 
 -- S10: an untagged unused vertex first, no start
 abbrev pub s10 : Content
-s10 = behind_unused (of_start Real.Absent Real.Absent)
+s10 = behind_unused (of_start None None)
 
 -- ---- S1
 
@@ -205,7 +202,7 @@ abbrev pub s5 : List Lent
 s5 = lent (advance 10) ∷ lent (back 1) ∷ lent mark ∷ lent (advance 1) ∷ lent return ∷ []
 
 pub s5-ticked : ticks (needs (task s1)) (needs (task s1)) (last_place (task s1)) s5 (record { counter = fresh; said = [] })
-    ≡ record { counter = record { place = 2; mark = some 2; passes = 4 }; said = 0 ∷ 0 ∷ 0 ∷ 0 ∷ 0 ∷ [] }
+    ≡ record { counter = record { place = 2; mark = Some 2; passes = 4 }; said = 0 ∷ 0 ∷ 0 ∷ 0 ∷ 0 ∷ [] }
 unfolding shown ticks needs
 s5-ticked = refl
 
@@ -221,7 +218,7 @@ said k s = record { counter = s; said = k ∷ [] }
 
 -- at a place with no mark and so many passes
 abbrev unmarked : ℕ → ℕ → Counter
-unmarked place passes = record { place = place; mark = none; passes = passes }
+unmarked place passes = record { place = place; mark = None; passes = passes }
 
 -- 2^64 − 1 passes
 abbrev full : ℕ

@@ -1,5 +1,5 @@
 -- Laws of one pass on sizes and ranges: the vectors' and gradients' lengths, the points and the path, and the triangle that a crossing leads into. Assumes nothing.
-use Rattle.std.specs.Prelude.{ℕ, zero, suc, ◌+◌, ◌-◌, ◌*◌, ◌/◌, ◌≤◌, ◌<◌, ◌≡◌, refl, ◌≢◌, Bool, true, false, ◌&&◌, eqb, leb, length, get_or, replicate, Float}
+use Rattle.std.specs.Prelude.{is_some, ℕ, zero, suc, ◌+◌, ◌-◌, ◌*◌, ◌/◌, ◌≤◌, ◌<◌, ◌≡◌, refl, ◌≢◌, Bool, true, false, ◌&&◌, eqb, leb, length, get_or, replicate, Float, Option, Some, None}
 use Rattle.std.proofs.Common.{arith, add-one, sym, ap, ◌∙◌, ⊎_elim, length-append, length-set}
 use Rattle.std.proofs.lemmas.Bool.{false≢true}
 use mathlib.Core.List.{List, [], ◌∷◌, ◌++◌, zip_with}
@@ -24,9 +24,7 @@ use Rattle.gradient.specs.Gradient.{gradients}
 use Rattle.pde.specs.Bounds.{Neighbouring, crossing_in_lem}
 use Rattle.pde.specs.PathLaws.{Stands, walked_more, walked-most, walked_stands}
 use Rattle.format.specs.Content.{Content, max_limit, max_room, default_limit, whole_or}
-use Rattle.format.specs.Range.{InRange, OfWhole, Between}
-use Rattle.format.specs.declared.Whole.{Whole}
-use Rattle.format.specs.Refusal.{has_whole}
+use Rattle.format.specs.Range.{InRange, IfGiven, Between}
 use Rattle.model.specs.Task.{Task, vertex_count, triangle_count, task_of, task}
 use Rattle.model.specs.Space.{factor}
 use Rattle.model.specs.Run.{Field, Trail, rule, matrix_of, right_of, solved, solving, crossed, crossing_pass}
@@ -34,13 +32,13 @@ use Rattle.model.specs.Sized.{Sized, Vectors}
 
 -- ---- what every accepted sheet has
 
-room_given_lem : (w : Whole) → has_whole w ≡ true → OfWhole (Between 1 max_room) w → Between 1 max_room (whole_or 0 w)
-room_given_lem Whole.Absent h k = absurd (false≢true h)
-room_given_lem (Whole.Given v) h k = k
+room_given_lem : (w : Option ℕ) → is_some w ≡ true → IfGiven (Between 1 max_room) w → Between 1 max_room (whole_or 0 w)
+room_given_lem None h k = absurd (false≢true h)
+room_given_lem (Some v) h k = k
 
-limit_given : (default : ℕ) → default ≤ max_limit → (w : Whole) → OfWhole (Between 0 max_limit) w → whole_or default w ≤ max_limit
-limit_given default d Whole.Absent k = d
-limit_given default d (Whole.Given v) k = k.greatest
+limit_given : (default : ℕ) → default ≤ max_limit → (w : Option ℕ) → IfGiven (Between 0 max_limit) w → whole_or default w ≤ max_limit
+limit_given default d None k = d
+limit_given default d (Some v) k = k.greatest
 
 pub sized_of : (default : ℕ) → default ≤ max_limit → (c : Content) → InRange c → Sized (task_of default c)
 unfolding task_of

@@ -1,6 +1,5 @@
 -- Document 01's counter machine: place, mark and passes, fed which call, its arguments and how much space it is lent. Definitions only. Assumes nothing.
-use Rattle.std.specs.Prelude.{ℕ, ◌+◌, ◌-◌, min, ◌||◌, List, [], ◌∷◌, ◌++◌, ltb, eqb}
-use Rattle.std.proofs.Math.Option.{Option, none, some}
+use Rattle.std.specs.Prelude.{ℕ, ◌+◌, ◌-◌, min, ◌||◌, List, [], ◌∷◌, ◌++◌, ltb, eqb, Option, Some, None}
 use Rattle.binary64.specs.Number.{pick}
 use Rattle.model.specs.Task.{Task, vertex_count, triangle_count}
 use Rattle.model.specs.Space.{float_space, word_space, path_space}
@@ -23,7 +22,7 @@ pub record Counter : Type 0 where
   pub passes : ℕ
 
 abbrev pub fresh : Counter
-fresh = record { place = 0; mark = none; passes = 0 }
+fresh = record { place = 0; mark = None; passes = 0 }
 
 -- 2^64 − 1
 abbrev pub most : ℕ
@@ -44,8 +43,8 @@ abbrev pub ahead : ℕ → ℕ → ℕ → ℕ
 ahead last k place = min (place + k) last
 
 abbrev pub no_mark : Option ℕ → ℕ
-no_mark none = 9
-no_mark (some p) = 0
+no_mark None = 9
+no_mark (Some p) = 0
 
 -- of a call that is lent enough: 10 for an advance that would carry passes too far, 9 for a return with no mark
 abbrev pub late : ℕ → Call → Counter → ℕ
@@ -58,13 +57,13 @@ unfoldable pub refused : Space → ℕ → Call → Space → Counter → ℕ
 refused need last call lent s = pick (eqb (short need lent) 0) (late last call s) (short need lent)
 
 abbrev pub mark_or : Option ℕ → ℕ → ℕ
-mark_or none p = p
-mark_or (some q) p = q
+mark_or None p = p
+mark_or (Some q) p = q
 
 abbrev pub moved : ℕ → Call → Counter → Counter
 moved last (advance k) s = record { place = ahead last k s.place; mark = s.mark; passes = s.passes + (ahead last k s.place - s.place) }
 moved last (back k) s = record { place = s.place - k; mark = s.mark; passes = s.passes }
-moved last mark s = record { place = s.place; mark = some s.place; passes = s.passes }
+moved last mark s = record { place = s.place; mark = Some s.place; passes = s.passes }
 moved last return s = record { place = mark_or s.mark s.place; mark = s.mark; passes = s.passes }
 
 -- a refused call leaves the state unchanged

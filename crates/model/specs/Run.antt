@@ -1,6 +1,5 @@
 -- The uninterrupted run of a task (document 01, Passes and ends; Counter machine): what stands at place 0, one pass, and what stands after p passes. Definitions only. Assumes nothing.
-use Rattle.std.specs.Prelude.{ℕ, zero, suc, ◌+◌, ◌*◌, Bool, true, false, not, List, [], ◌∷◌, ◌++◌, leb, eqb, length, replicate, Float}
-use Rattle.std.proofs.Math.Option.{Option, none, some}
+use Rattle.std.specs.Prelude.{ℕ, zero, suc, ◌+◌, ◌*◌, Bool, true, false, not, List, [], ◌∷◌, ◌++◌, leb, eqb, length, replicate, Float, Option, Some, None}
 use Rattle.std.specs.Float.{binary64}
 use Rattle.std.specs.Float.Ieee.{of_bits}
 use Rattle.binary64.specs.Constants.{plus_zero, small}
@@ -14,7 +13,6 @@ use Rattle.laplace.specs.Assembly.{pushes, rows, right_side}
 use Rattle.conjugate.specs.Solver as Solver
 use Rattle.conjugate.specs.Solver.{Solve, Turn, halted, reached, moved, begun}
 use Rattle.gradient.specs.Gradient.{gradients}
-use Rattle.pde.specs.declared.Start.{Start}
 use Rattle.pde.specs.declared.Rule.{Rule}
 use Rattle.pde.specs.declared.Walk.{Walk}
 use Rattle.pde.specs.declared.Crossing.{Crossing}
@@ -23,6 +21,7 @@ use Rattle.pde.specs.Crossing.{crossing}
 use Rattle.pde.specs.Path.{ended, walked, added}
 use Rattle.model.specs.Task.{Task, vertex_count, triangle_count}
 use Rattle.model.specs.Space.{factor, farthest}
+use Rattle.pde.specs.declared.Entry.{Entry as Start}
 
 -- ---- the thresholds of crossing: 1e-12, 0.99 and 0.2
 
@@ -88,14 +87,14 @@ solving c f = solved c.limit f (Solver.pass flat (matrix_of c) c.tolerance f.sol
 -- ---- the start pass
 
 -- the first point, or the end
-abbrev pub set_out : Start → ℕ → List Float → Trail
-set_out (Start.At p t e) otherwise gs = record { gradients = gs; walk = record { position = p; triangle = t; edge = e; points = 1; end = 0 }; path = p ∷ []; crossings = 0 }
-set_out Start.Nothing otherwise gs = record { gradients = gs; walk = ended nowhere otherwise; path = []; crossings = 0 }
+abbrev pub set_out : Option Start → ℕ → List Float → Trail
+set_out (Some at) otherwise gs = record { gradients = gs; walk = record { position = at.point; triangle = at.triangle; edge = at.edge; points = 1; end = 0 }; path = at.point ∷ []; crossings = 0 }
+set_out None otherwise gs = record { gradients = gs; walk = ended nowhere otherwise; path = []; crossings = 0 }
 
 -- Gradients are filled; a given start lies in the first triangle that accepts it (else end 8), otherwise `pick_start` (else end 9).
 unfoldable pub start_from : Option Point → Task → List Float → List Float → Trail
-start_from (some p) c us gs = set_out (triangle_containing c.vertices c.triangles (triangle_count c) p) 8 gs
-start_from none c us gs = set_out (pick_start c.vertices c.triangles c.neighbours c.tags (triangle_count c) us) 9 gs
+start_from (Some p) c us gs = set_out (triangle_containing c.vertices c.triangles (triangle_count c) p) 8 gs
+start_from None c us gs = set_out (pick_start c.vertices c.triangles c.neighbours c.tags (triangle_count c) us) 9 gs
 
 unfoldable pub starting : Task → List Float → Trail
 unfolding start_from

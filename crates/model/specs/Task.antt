@@ -1,12 +1,10 @@
 -- What a run is worked out from: a sheet's lists, and its settings with what an absent one means. A content is read here alone; the run, its image and their laws are stated over a task. Definitions only.
 -- Assumes nothing.
-use Rattle.std.specs.Prelude.{ℕ, ◌/◌, List, length, Float}
-use Rattle.std.proofs.Math.Option.{Option, none, some}
+use Rattle.std.specs.Prelude.{ℕ, ◌/◌, List, length, Float, Option, Some, None}
 use Rattle.binary64.specs.Constants.{plus_zero}
 use Rattle.plane.specs.declared.Point.{Point}
 use Rattle.plane.specs.Plane.{point}
 use Rattle.mesh.specs.Mesh.{held_value}
-use Rattle.format.specs.declared.Real.{Real}
 use Rattle.format.specs.Content.{Content, default_limit, default_tolerance, whole_or, real_or}
 
 -- the lists as in a content; the value at which a vertex of a tag is held; the settings; the start, where one is given
@@ -30,10 +28,10 @@ abbrev pub triangle_count : Task → ℕ
 triangle_count c = length c.triangles / 3
 
 -- a start that has both coordinates
-abbrev pub both_given : Real → Real → Option Point
-both_given (Real.Given x) (Real.Given y) = some (point x y)
-both_given (Real.Given x) Real.Absent = none
-both_given Real.Absent y = none
+abbrev pub both_given : Option Float → Option Float → Option Point
+both_given (Some x) (Some y) = Some (point x y)
+both_given (Some x) None = None
+both_given None y = None
 
 -- what a content asks for, where an absent limit means the default; step and room are given in every accepted sheet
 unfoldable pub task_of : ℕ → Content → Task

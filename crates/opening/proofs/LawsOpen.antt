@@ -8,15 +8,17 @@ use native.Mathlib.Numerals.{add-one}
 use native.Mathlib.Omega.{arith}
 use lib.ListN.{length, get_or, set, take, drop, length-append, length-drop}
 use lib.Seq.{take_all}
+use Rattle.std.proofs.lemmas.List.{drop-drop, length-take-le}
 use lib.Ieee.{Float}
 use Rattle.binary64.specs.Constants.{plus_zero}
 use Rattle.plane.specs.declared.Point.{Point}
 use Rattle.stretch.specs.Stretch.{part, splice}
-use Rattle.stretch.specs.StretchLaws.{part_zero, part_all, part_add, part_cons, splice_nil}
+use Rattle.stretch.specs.StretchLaws.{part_zero, part_all, part_add, part_cons, splice_nil, splice_is, length-splice}
 use Rattle.stretch.proofs.LoopLaws.{write_step}
 use Rattle.format.specs.Content.{Content, vertex_count, triangle_count}
 use Rattle.format.specs.Sheet.{content_of}
 use Rattle.sheet.specs.declared.Header.{Header}
+use Rattle.sheet.specs.Items.{whole_in}
 use Rattle.sheet.specs.Answer.{header_of}
 use Rattle.sheet.specs.ItemLaws.{vertex_item, corner_item, neighbour_item, tag_item}
 use Rattle.model.specs.Task.{task_of, task}
@@ -73,6 +75,14 @@ module _ {A : Type 0} where
   two_of : (l : List A) (i : ℕ) (d : A) → 2 * i + 1 < length l → part l (2 * i) 2 ≡ get_or l (2 * i) d ∷ get_or l (2 * i + 1) d ∷ []
   two_of l i d h = part_cons l (2 * i) 1 d (omega arith) ∙ rw (part_cons l (suc (2 * i)) 0 d (omega arith), part_zero, add-one (2 * i))
 
+-- a part that is put back stands at its place
+put_back : {A : Type 0} (s new : List A) (at end n : ℕ) → end ≡ at + n → end ≤ length s → length new ≡ n → take at s ++ (new ++ drop (end - at) (drop at s)) ≡ splice s at new
+put_back s new at end n d h e = let m : end - at ≡ n = omega arith in rw (m, drop-drop) (sym (splice_is s new at n e (omega arith)))
+
+-- the items that stand in turn
+items_are : (new : List ℕ) (f : ℕ → ℕ) (n : ℕ) → length new ≡ n → ((i : ℕ) → i < n → get_or new i 0 ≡ f i) → new ≡ joined (λ i. f i ∷ []) n
+items_are new f n e h = sym (joined_is 1 (λ i. f i ∷ []) new n (omega (arith, e)) (λ i k. ap (λ (x : ℕ). x ∷ []) (sym (h i k)) ∙ sym (one_of new i 0 (omega arith))))
+
 -- ---- the sections of an accepted sheet
 
 -- the part of the sheet from a place on
@@ -123,3 +133,42 @@ module _ (sheet : List ℕ) (h : Header) (read : Read sheet h) where
         floats_are = ev ∙ ap (λ (x : List Float). splice floats 0 x) vertices_read_lem;
         words_are = e3 ∙ rw (tags_read_lem, e2, neighbours_read, e1, triangles_read, t);
       }
+
+  -- the same, by the parts of the words that the items are put into
+  module _ (words corners edges kinds : List ℕ) where
+    abbrev after_corners : List ℕ
+    after_corners = corners ++ drop (3 * h.t) words
+
+    abbrev after_edges : List ℕ
+    after_edges = take (3 * h.t) after_corners ++ (edges ++ drop (6 * h.t - 3 * h.t) (drop (3 * h.t) after_corners))
+
+    abbrev after_kinds : List ℕ
+    after_kinds = take (6 * h.t) after_edges ++ (kinds ++ drop (6 * h.t + h.n - 6 * h.t) (drop (6 * h.t) after_edges))
+
+    pub loaded_parts : (floats floats' : List Float) → floats' ≡ splice floats 0 (vertices_read (from sheet h.vertices) h.n) → 6 * h.t + h.n ≤ length words
+        → length corners ≡ length (take (3 * h.t) words) → length edges ≡ length (take (6 * h.t - 3 * h.t) (drop (3 * h.t) after_corners)) → length kinds ≡ length (take (6 * h.t + h.n - 6 * h.t) (drop (6 * h.t) after_edges))
+        → ((i : ℕ) → i < length (take (3 * h.t) words) → get_or corners i 0 ≡ whole_in (from sheet h.triangles) i)
+        → ((i : ℕ) → i < length (take (6 * h.t - 3 * h.t) (drop (3 * h.t) after_corners)) → get_or edges i 0 ≡ whole_in (from sheet h.neighbours) i)
+        → ((i : ℕ) → i < length (take (6 * h.t + h.n - 6 * h.t) (drop (6 * h.t) after_edges)) → get_or kinds i 0 ≡ get_or (from sheet h.tags) i 0)
+        → Loaded (task c) floats words floats' after_kinds
+    loaded_parts floats floats' ev fits l1 l2 l3 g1 g2 g3 =
+        let w₁ = splice words 0 corners in
+        let w₂ = splice w₁ (3 * h.t) edges in
+        let k1 : length corners ≡ 3 * h.t = l1 ∙ length-take-le (3 * h.t) words (omega arith) in
+        let m₁ : length w₁ ≡ length words = length-splice words 0 corners in
+        let m₂ : length w₂ ≡ length w₁ = length-splice w₁ (3 * h.t) edges in
+        let e1 : after_corners ≡ w₁ = rw zero-add at (sym (splice_is words corners 0 (3 * h.t) k1 (omega arith))) in
+        let d1 : length after_corners ≡ length words = ap length e1 ∙ m₁ in
+        let k2 : length edges ≡ 3 * h.t = l2 ∙ length-take-le (6 * h.t - 3 * h.t) (drop (3 * h.t) after_corners) (omega (arith, length-drop (3 * h.t) after_corners)) ∙ omega arith in
+        let e2 : after_edges ≡ w₂ = put_back after_corners edges (3 * h.t) (6 * h.t) (3 * h.t) (omega arith) (omega arith) k2 ∙ ap (λ (w : List ℕ). splice w (3 * h.t) edges) e1 in
+        let d2 : length after_edges ≡ length words = ap length e2 ∙ m₂ ∙ m₁ in
+        let k3 : length kinds ≡ h.n = l3 ∙ length-take-le (6 * h.t + h.n - 6 * h.t) (drop (6 * h.t) after_edges) (omega (arith, length-drop (6 * h.t) after_edges)) ∙ omega arith in
+        let e3 : after_kinds ≡ splice w₂ (6 * h.t) kinds =
+        put_back after_edges kinds (6 * h.t) (6 * h.t + h.n) h.n (omega arith) (omega arith) k3 ∙ ap (λ (w : List ℕ). splice w (6 * h.t) kinds) e2 in
+        let p1 : w₁ ≡ splice words 0 (numbers_read (from sheet h.triangles) (3 * h.t)) =
+        ap (splice words 0) (items_are corners (whole_in (from sheet h.triangles)) (3 * h.t) k1 (λ i k. g1 i (omega arith))) in
+        let p2 : w₂ ≡ splice w₁ (3 * h.t) (numbers_read (from sheet h.neighbours) (3 * h.t)) =
+        ap (splice w₁ (3 * h.t)) (items_are edges (whole_in (from sheet h.neighbours)) (3 * h.t) k2 (λ i k. g2 i (omega arith))) in
+        let p3 : splice w₂ (6 * h.t) kinds ≡ splice w₂ (6 * h.t) (tags_read (from sheet h.tags) h.n) =
+        ap (splice w₂ (6 * h.t)) (items_are kinds (λ (i : ℕ). get_or (from sheet h.tags) i 0) h.n k3 (λ i k. g3 i (omega arith))) in
+        loaded floats floats' words w₁ w₂ after_kinds ev p1 p2 (e3 ∙ p3)

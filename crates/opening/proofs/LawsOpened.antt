@@ -3,7 +3,7 @@
 use Prim.Native.Nat.{ℕ, zero, suc, ◌+◌, ◌*◌, ◌≤◌, ◌<◌}
 use mathlib.Core.Path.{◌≡◌, refl, sym, ap, ◌∙◌}
 use mathlib.Core.List.{List, [], ◌∷◌, ◌++◌, append-nil, append_assoc}
-use mathlib.Core.Option.{none}
+use Rattle.std.specs.Prelude.{None}
 use native.Mathlib.Omega.{arith}
 use native.Mathlib.Nat.{add_assoc}
 use lib.ListN.{length, get_or, length-append, take, drop, replicate, length-drop, length-replicate, take-append-drop, replicate-append-replicate}
@@ -225,7 +225,7 @@ module _ (c : Task) (z : Sized c) where
       unfolding place0
       sum-opened = ap (λ (s : Solve). s.rs) vectors_begun
 
-      pub floats_opened : begun_floats (plan_of c) (begun_again (plan_of c) (words_of c words) ready) ready ≡ floats_of c (place0 c) none rest
+      pub floats_opened : begun_floats (plan_of c) (begun_again (plan_of c) (words_of c words) ready) ready ≡ floats_of c (place0 c) None rest
       unfolding floats_of place0
       floats_opened =
           ap (λ (s : Solve). begun_floats (plan_of c) s ready) vectors_begun ∙ ap (λ (f : List Float). begun_floats (plan_of c) first f) floats_ready ∙ floats_begun laid_assembled (zeros (3 * n) ++ rest)

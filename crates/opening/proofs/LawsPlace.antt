@@ -1,19 +1,18 @@
 -- Opening step by step: what each step asks of the buffers follows from an accepted sheet and the space rule, and what the last one leaves is the run's image at place 0.
 -- Assumes nothing.
-use Prim.Native.Nat.{ℕ, ◌+◌, ◌*◌, ◌≤◌}
+use Prim.Native.Nat.{ℕ, ◌+◌, ◌-◌, ◌*◌, ◌≤◌}
 use mathlib.Core.Path.{◌≡◌, sym, ap, ◌∙◌}
-use mathlib.Core.Bool.{true, false}
+use mathlib.Core.Bool.{Bool, true, false, ◌||◌}
 use mathlib.Core.Logic.{inl}
-use mathlib.Core.List.{List, []}
-use mathlib.Core.Option.{none}
+use mathlib.Core.List.{List, [], ◌++◌}
 use native.Mathlib.Omega.{arith}
-use lib.ListN.{length, drop, take, set, replicate, length-replicate, length-drop}
+use lib.ListN.{get_or, length, drop, take, set, replicate, length-replicate, length-drop}
+use Rattle.std.proofs.lemmas.List.{take-append-drop, drop-drop, take_at, length-take-le}
 use lib.Ieee.{Float}
 use Rattle.binary64.specs.Constants.{plus_zero}
 use Rattle.binary64.specs.Root.{root}
-use Rattle.stretch.specs.Stretch.{splice}
-use Rattle.stretch.specs.StretchLaws.{part_zero, part_take, splice-one, splice_is}
-use Rattle.sparse.specs.declared.Csr.{Csr}
+use Rattle.stretch.specs.Stretch.{part, splice}
+use Rattle.stretch.specs.StretchLaws.{length_part, part_of_take, part_zero, part_take, splice-one, splice_is}
 use Rattle.mesh.specs.Mesh.{held_value}
 use Rattle.mesh.specs.Element.{flat}
 use Rattle.laplace.specs.declared.Places.{Places}
@@ -21,18 +20,20 @@ use Rattle.laplace.specs.Assembly.{right_side}
 use Rattle.laplace.specs.Laid.{LaidFloats, LaidWords}
 use Rattle.laplace.specs.Row.{tags_in}
 use Rattle.laplace.specs.Whole.{pushes_in, rows_for, Assembled}
-use Rattle.conjugate.specs.declared.Vectors.{Vectors}
 use Rattle.conjugate.specs.Placed as Solving
-use Rattle.conjugate.specs.Placed.{placed, start_of}
+use Rattle.conjugate.specs.Placed.{placed, row_of, start_of, VectorsAt}
+use Rattle.conjugate.specs.PlacedLaws.{Adjoin, begun_in}
+use Rattle.conjugate.specs.Solver.{Solve, begun}
+use Rattle.conjugate.specs.SolverLaws.{Long, begun_long}
 use Rattle.pde.specs.Path.{point_floats, coordinates_of}
 use Rattle.format.specs.Bytes.{Bytes}
 use Rattle.format.specs.Content.{default_limit}
-use Rattle.format.specs.Sheet.{accepted, parse, content_of}
+use Rattle.format.specs.Sheet.{parse, content_of}
 use Rattle.format.specs.Theorems.{parse_sound}
 use Rattle.sheet.specs.declared.Header.{Header}
-use Rattle.sheet.specs.declared.Checked.{Checked}
-use Rattle.sheet.specs.Answer.{checked_of}
+use Rattle.sheet.specs.Answer.{Checked, checked_of}
 use Rattle.sheet.specs.ItemLaws.{IsAccepted, is_accepted, is_refused, Within, header_within}
+use Rattle.model.specs.Space.{float_space, word_space, path_space}
 use Rattle.model.specs.Task.{Task, vertex_count, triangle_count, task_of, task}
 use Rattle.model.proofs.TaskLaws.{task-held}
 use Rattle.model.specs.Sized.{Sized}
@@ -41,12 +42,17 @@ use Rattle.model.proofs.SizeLaws.{sized}
 use Rattle.model.specs.Machine.{needs}
 use Rattle.work.specs.declared.Plan.{Plan}
 use Rattle.work.specs.declared.Run.{Run}
-use Rattle.work.specs.Layout.{at_gradients, at_norms, matrix_at, vectors_at}
+use Rattle.work.specs.Layout.{at_right, at_values, at_x, at_gradients, at_norms, matrix_at, vectors_at}
 use Rattle.work.specs.Memory.{begun_again}
 use Rattle.work.specs.Record.{new_run, no_run}
-use Rattle.image.specs.declared.Answer.{Answer}
+use Rattle.refusal.specs.declared.Refusal.{Refusal}
+use Rattle.refusal.specs.Refusal.{number_of}
+use Rattle.std.proofs.Common as Std
+use Rattle.std.specs.Result.{IsErrAnd}
+use Rattle.std.specs.Prelude.{Result, None, ltb}
+use Rattle.std.proofs.lemmas.Result.{err_from_is_err_and}
 use Rattle.image.proofs.AcceptedLaws.{ready}
-use Rattle.image.specs.Calls.{Buffers, buffers, answered}
+use Rattle.image.specs.Calls.{Buffers, buffers, answered, answer_of}
 use Rattle.image.specs.CallLaws.{Counted, lacking, lacking_none}
 use Rattle.image.specs.Image.{plan_of, floats_of, words_of, path_of, floats_used, words_used, run_of, image}
 use Rattle.image.proofs.ImageLawsLengths.{length_words}
@@ -58,12 +64,15 @@ use Rattle.image.specs.Replay.{Opens}
 use Rattle.image.proofs.ReplayLaws.{opens_refused, opens_short, opens_open}
 use Rattle.image.specs.Shown.{lengths_of}
 use Rattle.opening.proofs.LawsOpened.{lays_floats, lays_words, laid_out, sum-opened, floats_opened}
+use Rattle.sparse.specs.Sparse.{Entry}
+use Rattle.sparse.specs.Stored.{CsrAt, matrix}
+use Rattle.sparse.specs.ProductLaws.{matrix_kept, length-rows_of}
 
 -- ---- an accepted sheet
 
 module _ {sheet : List ℕ} {h : Header} (read : Read sheet h) where
-  pub read-within : Within sheet h
-  read-within = rw read.is.header (header_within sheet (content_of sheet) read.is.parsed)
+  pub read_within : Within sheet h
+  read_within = rw read.is.header (header_within sheet (content_of sheet) read.is.parsed)
 
   pub n_is : h.n ≡ vertex_count (task (content_of sheet))
   unfolding task_of
@@ -105,7 +114,7 @@ module _ (sheet : List ℕ) (h : Header) (read : Read sheet h) (floats : List Fl
 
 -- ---- place 0 of the field
 
-pub starts : (plan : Plan) (words : List ℕ) (long long₁ : ℕ) → Begins plan words long → long₁ ≡ long → (m : Csr) (v : Vectors) → m ≡ matrix_at plan.n plan.t → v ≡ vectors_at plan.n plan.t
+pub starts : (plan : Plan) (words : List ℕ) (long long₁ : ℕ) → Begins plan words long → long₁ ≡ long → (m : CsrAt) (v : VectorsAt) → m ≡ matrix_at plan.n plan.t → v ≡ vectors_at plan.n plan.t
     → Solving.Starts words long₁ m v (2 * plan.n)
 starts plan words long long₁ b e m v em ev =
     rw (em, ev)
@@ -123,7 +132,43 @@ starts plan words long long₁ b e m v em ev =
       };
     })
 
-pub begins_is : (plan : Plan) (words : List ℕ) (floats floats₁ floats₂ : List Float) (at norms : ℕ) (m : Csr) (v : Vectors) (rs norm : Float)
+-- the vectors are begun at the front of what stands behind the matrix's values
+module _ (n t : ℕ) (words : List ℕ) where
+  abbrev begun_by : List Float → Solve
+  begun_by s = start_of words s (matrix_at n t) (at_right n t)
+
+  pub begun_behind : (front behind new right : List Float) (rows : List (List Entry)) (sum : Float) → rows ≡ matrix words front (matrix_at n t) → right ≡ part front (at_right n t) n → length new ≡ 4 * n
+      → Solving.Begun (take (4 * n) behind) new n (row_of n) (begun rows right) sum → Solving.Begun (take (4 * n) behind) (take (4 * n) (new ++ drop (4 * n) behind)) n (row_of n) (begun_by front) sum
+  begun_behind front behind new right rows sum er eb long g =
+      let e : take (4 * n) (new ++ drop (4 * n) behind) ≡ new = take_at new (drop (4 * n) behind) (4 * n) long in
+      rw (e, ← er, ← eb) g
+
+  -- and so of the whole buffer
+  module _ (s front behind behind' : List Float) (b : Solving.Starts words (length s) (matrix_at n t) (vectors_at n t) (at_right n t)) (ef : front ≡ take (at_x n t) s) (eb : behind ≡ drop (at_x n t) s) where
+    same_begun : begun_by front ≡ begun_by s
+    same_begun =
+        let kept : part front (at_values n t) (9 * t + n) ≡ part s (at_values n t) (9 * t + n) = rw ef (part_of_take s (at_x n t) (at_values n t) (9 * t + n) (omega arith)) in
+        let right : part front (at_right n t) n ≡ part s (at_right n t) n = rw ef (part_of_take s (at_x n t) (at_right n t) n (omega arith)) in
+        let rows : matrix words front (matrix_at n t) ≡ matrix words s (matrix_at n t) = matrix_kept words s front (matrix_at n t) b.laid.sound kept in
+        rw (rows, right)
+
+    begun_long' : Long n (begun_by s)
+    begun_long' = begun_long n (matrix words s (matrix_at n t)) (part s (at_right n t) n) (length-rows_of words s (matrix_at n t) n) (length_part s (at_right n t) n b.reads.right_fits)
+
+    pub begun_whole : (sum : Float) → length behind' ≡ length behind → Solving.Begun (take (4 * n) behind) (take (4 * n) behind') n (row_of n) (begun_by front) sum → drop (4 * n) behind' ≡ drop (4 * n) behind
+        → Solving.Begun s (front ++ behind') n (vectors_at n t) (begun_by s) sum
+    unfolding part
+    begun_whole sum el g ek =
+        let ends : at_x n t + 4 * n ≤ length s = omega (arith, b.laid.in_row.ends) in
+        let lb : length behind ≡ length s - at_x n t = ap length eb ∙ length-drop (at_x n t) s in
+        let long : length (take (4 * n) behind') ≡ 4 * n = length-take-le (4 * n) behind' (omega arith) in
+        let after : drop (4 * n) behind ≡ drop (at_x n t + 4 * n) s = ap (drop (4 * n)) eb ∙ drop-drop (4 * n) (at_x n t) s in
+        let put : front ++ behind' ≡ splice s (at_x n t) (take (4 * n) behind') =
+        ap (λ (l : List Float). front ++ l) (sym (take-append-drop (4 * n) behind')) ∙ rw (ef, ek, after) (sym (splice_is s (take (4 * n) behind') (at_x n t) (4 * n) long ends)) in
+        let next : Adjoin (vectors_at n t) n = record { r_at = omega arith; p_at = omega arith; product_at = omega arith } in
+        begun_in s (take (4 * n) behind) n (vectors_at n t) b.laid.in_row next (ap (take (4 * n)) eb) (begun_by s) begun_long' (rw same_begun at g) put
+
+pub begins_is : (plan : Plan) (words : List ℕ) (floats floats₁ floats₂ : List Float) (at norms : ℕ) (m : CsrAt) (v : VectorsAt) (rs norm : Float)
     → at ≡ at_gradients plan.n plan.t → floats₁ ≡ splice floats at (replicate (2 * plan.t + (plan.limit + 1) + 3 * plan.n) plus_zero) → m ≡ matrix_at plan.n plan.t → v ≡ vectors_at plan.n plan.t
     → Solving.Begun floats₁ floats₂ m.rows v (start_of words floats₁ m (2 * plan.n)) rs → norms ≡ at_norms plan.n plan.t → norm ≡ root rs → Begun plan words floats rs (set floats₂ norms norm)
 unfolding placed begun_floats
@@ -204,7 +249,7 @@ module _ (sheet : List ℕ) (h : Header) (plan : Plan) (b : Buffers) (s : Suffic
   unfolding run_of new_run image at place0
   stands floats₁ floats₂ path' words₁ rs run l g p r =
       let e : rs ≡ (place0 c).field.solve.rs = g.sum ∙ rw (plan_of_lem, l.words_are, l.floats_are) (sum-opened c good b.floats floats_long spare) in
-      let f : floats₂ ≡ floats_of c (place0 c) none (drop (floats_used c) b.floats) = g.floats_are ∙ rw (plan_of_lem, l.words_are, l.floats_are) (floats_opened c good b.floats floats_long spare) in
+      let f : floats₂ ≡ floats_of c (place0 c) None (drop (floats_used c) b.floats) = g.floats_are ∙ rw (plan_of_lem, l.words_are, l.floats_are) (floats_opened c good b.floats floats_long spare) in
       let q : path' ≡ path_of c (place0 c) (drop (point_floats * c.room) b.path) = p ∙ ap (λ (x : Plan). splice b.path 0 (replicate (2 * x.room) plus_zero)) plan_of_lem ∙ path_opened in
       record {
         run_is = r ∙ rw (plan_of_lem, e);
@@ -212,6 +257,14 @@ module _ (sheet : List ℕ) (h : Header) (plan : Plan) (b : Buffers) (s : Suffic
       }
 
 -- ---- what opening answers
+
+pub bytes_fit : {s : List ℕ} → ((i : ℕ) → Std.Fits Std.w8 (get_or s i 0)) → Bytes s
+bytes_fit h = record { below = λ i. (h i).fits }
+
+-- what the space of a plan lacks, its buffers lack
+pub space_lacks : (p : Plan) (floats words path : ℕ) {a b c : ℕ} {l v : Bool} → a ≡ float_space p.n p.t p.limit → b ≡ word_space p.n p.t → c ≡ path_space p.room → l ≡ (ltb floats a || (ltb words b || ltb path c)) → l ≡ v
+    → lacks p floats words path ≡ v
+space_lacks p floats words path ea eb ec e h = let f : _ ≡ lacks p floats words path = rw (ea, eb, ec) at e in sym f ∙ h
 
 module _ (sheet : List ℕ) (bytes : Bytes sheet) (h : Header) (said : Checked.Accepted h ≡ checked_of (parse sheet)) where
   pub is_read : Read sheet h
@@ -223,8 +276,8 @@ module _ (sheet : List ℕ) (bytes : Bytes sheet) (h : Header) (said : Checked.A
   unfolding task_of
   plan_read plan e = e ∙ ap plan_by is_read.is.header
 
-  pub counted-read : (plan : Plan) → plan ≡ plan_by h → Counted plan
-  counted-read plan e = rw (plan_read plan e) (counted (task (content_of sheet)) (sized_read is_read))
+  pub counted_read : (plan : Plan) → plan ≡ plan_by h → Counted plan
+  counted_read plan e = rw (plan_read plan e) (counted (task (content_of sheet)) (sized_read is_read))
 
   module _ (b : Buffers) (plan : Plan) (e : plan ≡ plan_by h) where
     -- the space that the plan asks for is that of the task
@@ -235,11 +288,14 @@ module _ (sheet : List ℕ) (bytes : Bytes sheet) (h : Header) (said : Checked.A
     pub suffices : lacks plan (length b.floats) (length b.words) (length b.path) ≡ false → Suffices sheet h plan b
     suffices k = record { read = is_read; plan_is = e; space = lacking_none (needs (task (content_of sheet))) (lengths_of b) (needed ∙ k) }
 
-    pub answers_short : (a : Answer) → a ≡ answered 8 no_run → lacks plan (length b.floats) (length b.words) (length b.path) ≡ true → Opens sheet b a b
-    answers_short a q k = opens_short sheet b a q (content_of sheet) is_read.is.parsed (needed ∙ k)
+    pub answers_short : lacks plan (length b.floats) (length b.words) (length b.path) ≡ true → Opens sheet b (answered 8 no_run) b
+    answers_short k = opens_short sheet b (content_of sheet) is_read.is.parsed (needed ∙ k)
 
     pub answers_open : (run : Run) (b' : Buffers) → lacks plan (length b.floats) (length b.words) (length b.path) ≡ false → Stands (task (content_of sheet)) b run b' → Opens sheet b (answered 0 run) b'
     answers_open run b' k s = opens_open sheet b (content_of sheet) run b' is_read.is.parsed (needed ∙ k) s.run_is s.held
 
-pub answers_refused : (sheet : List ℕ) (b : Buffers) (a : Answer) (k : ℕ) → a ≡ answered k no_run → Checked.Refused k ≡ checked_of (parse sheet) → Opens sheet b a b
-answers_refused sheet b a k q e = opens_refused sheet b a k q (is_refused sheet k e)
+pub answers_refused : (sheet : List ℕ) (b : Buffers) (e : Refusal) (left : Result Run Refusal) → IsErrAnd left (λ y. y ≡ e) → Checked.Refused (number_of e) ≡ checked_of (parse sheet)
+    → Opens sheet b (answer_of no_run left) b
+answers_refused sheet b e left w h =
+    let p = err_from_is_err_and left w in
+    rw (p.1, p.2) (opens_refused sheet b (number_of e) (is_refused sheet (number_of e) h))

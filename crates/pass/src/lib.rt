@@ -45,10 +45,7 @@ fn crosses(stand: Stand) -> bool
     requires { stand.walk.end ≡ 0 }
     ensures { result ≡ true → Crosses stand }
 {
-    if stand.end == 0 {
-        return false;
-    }
-    stand.walk.points != 0
+    stand.end != 0 && stand.walk.points != 0
 }
 
 // A crossing on the lent buffers: its points are written behind the points, and nothing else.
@@ -58,8 +55,7 @@ fn cross(floats: &[f64], words: &[u32], path: &mut [f64], plan: Plan, stand: Sta
 {
     let f = work::layout::at_norms(plan.n, plan.t);
     let walk = stand.walk;
-    let from = walk.position;
-    let c = kinds::crossing_of(&floats[..f], words, plan, from, walk.triangle, walk.edge);
+    let c = kinds::crossing_of(&floats[..f], words, plan, kinds::entry_of(walk));
     tracing::path::put_added(path, plan.room, walk, c);
     kinds::crossed(plan, stand, c)
 }
@@ -76,7 +72,7 @@ fn once(floats: &mut [f64], words: &[u32], path: &mut [f64], plan: Plan, stand: 
     d.stand
 }
 
-// At most k crossings, up to the path's end.
+// At most k crossings, up to the path's end. This loop and that of `go` stay two: one over a closure would state each step's contract twice.
 fn cross_on(
     floats: &[f64],
     words: &[u32],
@@ -89,15 +85,11 @@ fn cross_on(
     ensures { Comes (Memory.goes plan words.now k (work floats.now path.old stand)) result floats.now path.new }
 {
     let mut s = stand;
-    let mut i = 0;
-    while i < k {
-        let walk = s.walk;
-        if walk.end != 0 {
+    for _i in 0..k {
+        if s.walk.end != 0 {
             return s;
         }
-        let crossed = cross(floats, words, path, plan, s);
-        s = crossed;
-        i += 1;
+        s = cross(floats, words, path, plan, s);
     }
     s
 }
@@ -115,18 +107,14 @@ pub fn go(
     ensures { Comes (Memory.goes plan words.now k (work floats.old path.old stand)) result floats.new path.new }
 {
     let mut s = stand;
-    let mut i = 0;
-    while i < k {
-        let walk = s.walk;
-        if walk.end != 0 {
+    for i in 0..k {
+        if s.walk.end != 0 {
             return s;
         }
         if crosses(s) {
             return cross_on(floats, words, path, plan, s, k - i);
         }
-        let next = once(floats, words, path, plan, s);
-        s = next;
-        i += 1;
+        s = once(floats, words, path, plan, s);
     }
     s
 }

@@ -1,3 +1,2 @@
-pub mod CrossLaws
-pub mod LeavingLaws
 pub mod EdgeLaws
+pub mod LeavingLaws

@@ -1,5 +1,5 @@
 -- One crossing of a triangle (mesh/pde.rs, the loop of `trace_spiral`; document 01, Crossing): along the level line turned outward by the step. Definitions only. Assumes nothing.
-use Rattle.std.specs.Prelude.{ℕ, ◌+◌, ◌*◌, List, eqb, get_or, Float}
+use Rattle.std.specs.Prelude.{ℕ, ◌+◌, ◌*◌, List, Option, Some, None, eqb, get_or, Float}
 use Rattle.std.specs.Float.{nan, binary64}
 use Rattle.std.specs.Float.Ieee.{of_bits, neg, lt}
 use Rattle.binary64.specs.Arith.{◌⊕◌, ◌⊗◌, ◌⊘◌}
@@ -43,13 +43,13 @@ value_in vs ts us t p =
     let c = corner ts t 2 in
     interpolated p (vertex vs a) (vertex vs b) (vertex vs c) (get_or us a nan) (get_or us b nan) (get_or us c nan)
 
--- into triangle t by its edge e, unless the field at p is above the threshold there
-unfoldable pub entering : Float → List Float → List ℕ → List Float → Point → Side → Beyond → Beyond
-entering above vs ts us p (Side.Of t e) other = pick (lt above (value_in vs ts us t p)) Beyond.Above (Beyond.Into t e)
-entering above vs ts us p Side.Nothing other = other
+-- into a side's triangle by its edge, unless the field at p is above the threshold there
+unfoldable pub entering : Float → List Float → List ℕ → List Float → Point → Option Side → Beyond → Beyond
+entering above vs ts us p (Some s) other = pick (lt above (value_in vs ts us s.triangle p)) Beyond.Above (Beyond.Into s)
+entering above vs ts us p None other = other
 
 -- the edge that is entered beyond edge e of triangle t: over a cut edge, or the neighbour's edge that names us back
-unfoldable pub entered : List ℕ → List ℕ → ℕ → ℕ → ℕ → Side
+unfoldable pub entered : List ℕ → List ℕ → ℕ → ℕ → ℕ → Option Side
 entered ts ns count t e = let next = neighbour ns t e in pick (eqb next no_neighbour) (cut_match ts ns count t e) (entry_edge ns next t)
 
 -- where none is: the border, or a neighbour that does not name us back
@@ -64,9 +64,9 @@ beyond above vs ts ns count us t e p = entering above vs ts us p (entered ts ns 
 unfoldable pub pieces : Float → Point → Point → ℕ
 pieces spacing p q = ceil_count (distance p q ⊘ spacing)
 
-abbrev pub left : Rule → List Float → List ℕ → List ℕ → ℕ → List Float → Point → ℕ → Exit → Crossing
-left rule vs ts ns count us pos t (Exit.Through e p) = Crossing.Leaves p (pieces rule.spacing pos p) (beyond rule.above vs ts ns count us t e p)
-left rule vs ts ns count us pos t Exit.Nothing = Crossing.Stuck
+abbrev pub left : Rule → List Float → List ℕ → List ℕ → ℕ → List Float → Point → ℕ → Option Exit → Crossing
+left rule vs ts ns count us pos t (Some x) = Crossing.Leaves x.point (pieces rule.spacing pos x.point) (beyond rule.above vs ts ns count us t x.edge x.point)
+left rule vs ts ns count us pos t None = Crossing.Stuck
 
 -- what crossing triangle t from pos, entered by an edge, comes to where g is its gradient
 unfoldable pub crossing_along : Rule → List Float → List ℕ → List ℕ → ℕ → List Float → Point → Float → Point → ℕ → ℕ → Crossing

@@ -1,12 +1,11 @@
 -- Where a ray leaves a triangle, and which edge is entered beyond (mesh/pde.rs, `find_exit_edge`, `entry_edge_of`, `find_cut_edge_match`). Definitions only. Assumes nothing.
-use Rattle.std.specs.Prelude.{ℕ, zero, suc, Bool, false, ◌&&◌, List, eqb, Float}
+use Rattle.std.specs.Prelude.{ℕ, zero, suc, Bool, false, ◌&&◌, List, Option, Some, None, eqb, Float}
 use Rattle.std.specs.Float.{inf}
 use Rattle.std.specs.Float.Ieee.{lt}
 use Rattle.binary64.specs.Arith.{◌⊕◌, ◌⊖◌, ◌⊗◌}
 use Rattle.binary64.specs.Number.{pick}
 use Rattle.binary64.specs.Root.{root}
 use Rattle.plane.specs.declared.Point.{Point}
-use Rattle.plane.specs.declared.Hit.{Hit}
 use Rattle.plane.specs.Plane.{ray_line_intersection}
 use Rattle.mesh.specs.Mesh.{vertex, corner, neighbour, no_neighbour, onward}
 use Rattle.pde.specs.Search.{first_of}
@@ -26,18 +25,21 @@ distance p q = root (squared p q)
 
 -- ---- the exit
 
+abbrev pub exit_at : ℕ → Point → Option Exit
+exit_at e p = Some (record { edge = e; point = p })
+
 -- the nearest exit so far, and how far it is
 pub record Nearest : Type 0 where
   pub far : Float
-  pub exit : Exit
+  pub exit : Option Exit
 
-abbrev pub nearest : Float → Exit → Nearest
+abbrev pub nearest : Float → Option Exit → Nearest
 nearest d e = record { far = d; exit = e }
 
 -- a hit counts where it is farther than the least and nearer than the best
-abbrev pub offered : Float → Point → ℕ → Hit → Nearest → Nearest
-offered least pos e (Hit.At p) best = let d = distance pos p in pick (lt least d && lt d best.far) (nearest d (Exit.Through e p)) best
-offered least pos e Hit.Nothing best = best
+abbrev pub offered : Float → Point → ℕ → Option Point → Nearest → Nearest
+offered least pos e (Some p) best = let d = distance pos p in pick (lt least d && lt d best.far) (nearest d (exit_at e p)) best
+offered least pos e None best = best
 
 -- edge e, unless it is the entry edge
 unfoldable pub considered : Float → List Float → List ℕ → ℕ → Point → Point → ℕ → ℕ → Nearest → Nearest
@@ -46,10 +48,10 @@ considered least vs ts t pos dir entry e best =
 
 -- the first k edges in order
 unfoldable pub nearest_of : Float → List Float → List ℕ → ℕ → Point → Point → ℕ → ℕ → Nearest
-nearest_of least vs ts t pos dir entry zero = nearest (inf false) Exit.Nothing
+nearest_of least vs ts t pos dir entry zero = nearest (inf false) None
 nearest_of least vs ts t pos dir entry (suc e) = considered least vs ts t pos dir entry e (nearest_of least vs ts t pos dir entry e)
 
-abbrev pub exit_edge : Float → List Float → List ℕ → ℕ → Point → Point → ℕ → Exit
+abbrev pub exit_edge : Float → List Float → List ℕ → ℕ → Point → Point → ℕ → Option Exit
 exit_edge least vs ts t pos dir entry = (nearest_of least vs ts t pos dir entry 3).exit
 
 -- the same of one whose distance is known by its square
@@ -58,29 +60,28 @@ rooted c = nearest (root c.square) c.exit
 
 -- ---- the edge beyond
 
-abbrev pub or_side : Side → Side → Side
-or_side (Side.Of t e) s = Side.Of t e
-or_side Side.Nothing s = s
-
-abbrev pub first_side : (ℕ → Side) → ℕ → ℕ → Side
-first_side f i k = first_of or_side Side.Nothing f i k
+abbrev pub side : ℕ → ℕ → Option Side
+side t e = Some (record { triangle = t; edge = e })
 
 -- the first edge of t whose neighbour is `prev`
-unfoldable pub names_back : List ℕ → ℕ → ℕ → ℕ → Side
-names_back ns t prev e = pick (eqb (neighbour ns t e) prev) (Side.Of t e) Side.Nothing
+unfoldable pub names_back : List ℕ → ℕ → ℕ → ℕ → Option Side
+names_back ns t prev e = pick (eqb (neighbour ns t e) prev) (side t e) None
 
-unfoldable pub entry_edge : List ℕ → ℕ → ℕ → Side
-entry_edge ns t prev = first_side (names_back ns t prev) 0 3
+unfoldable pub entry_edge : List ℕ → ℕ → ℕ → Option Side
+entry_edge ns t prev = first_of (names_back ns t prev) 0 3
 
 -- A cut edge, from a to b: the first other triangle, then the first edge, that has no neighbour and the corners reversed.
 abbrev pub is_cut : List ℕ → List ℕ → ℕ → ℕ → ℕ → ℕ → Bool
 is_cut ts ns a b t e = eqb (neighbour ns t e) no_neighbour && (eqb (corner ts t e) b && eqb (corner ts t (onward e)) a)
 
-unfoldable pub cut_edge : List ℕ → List ℕ → ℕ → ℕ → ℕ → ℕ → Side
-cut_edge ts ns a b t e = pick (is_cut ts ns a b t e) (Side.Of t e) Side.Nothing
+unfoldable pub cut_edge : List ℕ → List ℕ → ℕ → ℕ → ℕ → ℕ → Option Side
+cut_edge ts ns a b t e = pick (is_cut ts ns a b t e) (side t e) None
 
-unfoldable pub cut_triangle : List ℕ → List ℕ → ℕ → ℕ → ℕ → ℕ → Side
-cut_triangle ts ns here a b t = pick (eqb t here) Side.Nothing (first_side (cut_edge ts ns a b t) 0 3)
+unfoldable pub cut_edge_of : List ℕ → List ℕ → ℕ → ℕ → ℕ → Option Side
+cut_edge_of ts ns a b t = first_of (cut_edge ts ns a b t) 0 3
 
-unfoldable pub cut_match : List ℕ → List ℕ → ℕ → ℕ → ℕ → Side
-cut_match ts ns count here e = first_side (cut_triangle ts ns here (corner ts here e) (corner ts here (onward e))) 0 count
+unfoldable pub cut_triangle : List ℕ → List ℕ → ℕ → ℕ → ℕ → ℕ → Option Side
+cut_triangle ts ns here a b t = pick (eqb t here) None (cut_edge_of ts ns a b t)
+
+unfoldable pub cut_match : List ℕ → List ℕ → ℕ → ℕ → ℕ → Option Side
+cut_match ts ns count here e = first_of (cut_triangle ts ns here (corner ts here e) (corner ts here (onward e))) 0 count

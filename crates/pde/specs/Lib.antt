@@ -7,3 +7,5 @@ pub mod Path
 pub mod Bounds
 pub mod Work
 pub mod PathLaws
+pub mod Stands
+pub mod StandsLaws

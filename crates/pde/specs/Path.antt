@@ -45,13 +45,13 @@ unfoldable pub closing : Point → Beyond → List Point
 closing q Beyond.Border = []
 closing q Beyond.Unnamed = []
 closing q Beyond.Above = q ∷ []
-closing q (Beyond.Into t e) = []
+closing q (Beyond.Into s) = []
 
 abbrev pub closes : Beyond → ℕ
 closes Beyond.Border = 0
 closes Beyond.Unnamed = 0
 closes Beyond.Above = 1
-closes (Beyond.Into t e) = 0
+closes (Beyond.Into s) = 0
 
 -- ---- the path after a crossing
 
@@ -67,7 +67,7 @@ abbrev pub gone : Bool → Walk → Point → Beyond → ℕ → Walk
 gone last w q Beyond.Border k = with_points w k 3
 gone last w q Beyond.Unnamed k = with_points w k 4
 gone last w q Beyond.Above k = with_points w k 5
-gone last w q (Beyond.Into t e) k = record { position = q; triangle = t; edge = e; points = w.points + k; end = pick last 6 0 }
+gone last w q (Beyond.Into s) k = record { position = q; triangle = s.triangle; edge = s.edge; points = w.points + k; end = pick last 6 0 }
 
 -- how many points a crossing adds
 abbrev pub adds : Crossing → ℕ

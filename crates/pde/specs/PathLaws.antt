@@ -35,7 +35,7 @@ unfolding closing
 length-closing q Beyond.Border = refl
 length-closing q Beyond.Unnamed = refl
 length-closing q Beyond.Above = refl
-length-closing q (Beyond.Into t e) = refl
+length-closing q (Beyond.Into s) = refl
 
 -- ---- the room
 
@@ -43,13 +43,13 @@ pub closes-most : (b : Beyond) → closes b ≤ 1
 closes-most Beyond.Border = omega arith
 closes-most Beyond.Unnamed = omega arith
 closes-most Beyond.Above = omega arith
-closes-most (Beyond.Into t e) = omega arith
+closes-most (Beyond.Into s) = omega arith
 
 pub gone_points : (last : Bool) (w : Walk) (q : Point) (b : Beyond) (k : ℕ) → (gone last w q b k).points ≡ w.points + k
 gone_points last w q Beyond.Border k = refl
 gone_points last w q Beyond.Unnamed k = refl
 gone_points last w q Beyond.Above k = refl
-gone_points last w q (Beyond.Into t e) k = refl
+gone_points last w q (Beyond.Into s) k = refl
 
 -- the points after a crossing are those before it and those that it put down, and the room holds them
 pub walked_more : (room : ℕ) (last : Bool) (w : Walk) (c : Crossing) → w.points + length (added room w c) ≡ (walked room last w c).points
@@ -104,4 +104,4 @@ walked_stands room last t w (Crossing.Leaves q n b) i s = by (ltb room (w.points
     by false Beyond.Border i = record { triangle_below = s.triangle_below; edge_most = s.edge_most }
     by false Beyond.Unnamed i = record { triangle_below = s.triangle_below; edge_most = s.edge_most }
     by false Beyond.Above i = record { triangle_below = s.triangle_below; edge_most = s.edge_most }
-    by false (Beyond.Into t' e) i = record { triangle_below = i.0; edge_most = omega (arith, i.1) }
+    by false (Beyond.Into side) i = record { triangle_below = i.0; edge_most = omega (arith, i.1) }

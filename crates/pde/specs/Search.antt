@@ -1,7 +1,11 @@
 -- The first answer among numbered ones. Definitions only. Assumes nothing.
-use Rattle.std.specs.Prelude.{ℕ, zero, suc}
+use Rattle.std.specs.Prelude.{ℕ, zero, suc, Option, Some, None}
 
--- What f gives of the k numbers from i on: the first answer, by an `or_else` that keeps its first argument unless that is `nothing`.
-unfoldable pub first_of : {A : Type 0} → (A → A → A) → A → (ℕ → A) → ℕ → ℕ → A
-first_of or_else nothing f i zero = nothing
-first_of or_else nothing f i (suc k) = or_else (f i) (first_of or_else nothing f (suc i) k)
+abbrev pub or_else : {A : Type 0} → Option A → Option A → Option A
+or_else (Some a) b = Some a
+or_else None b = b
+
+-- the first answer that f gives of the k numbers from i on
+unfoldable pub first_of : {A : Type 0} → (ℕ → Option A) → ℕ → ℕ → Option A
+first_of f i zero = None
+first_of f i (suc k) = or_else (f i) (first_of f (suc i) k)

@@ -1,50 +1,65 @@
 -- Laws of a search among numbered answers: what is left of it from a number on, a turn of a loop that makes it, and its end. Assumes nothing.
-use Rattle.std.specs.Prelude.{◌≡◌}
-use Rattle.std.proofs.Common.{sym, ◌∙◌, add-one}
-use Rattle.std.proofs.Math.Path.{ap}
-use Prim.Native.Nat.{ℕ, zero, suc, ◌+◌, ◌-◌, ◌≤◌, ◌<◌}
-use native.Mathlib.Omega.{arith}
-use Rattle.pde.specs.Search.{first_of}
+use Rattle.std.specs.Prelude.{is_some, unwrap_or, refl, ◌≡◌, ℕ, suc, ◌+◌, ◌-◌, ◌≤◌, ◌<◌, Option, Some, None, Bool, true, false, cond, find, zero}
+use Rattle.std.proofs.Common.{sym, ◌∙◌, ap, add-one, arith}
+use Rattle.std.specs.Option.{option_map}
+use Rattle.std.proofs.lemmas.Bool.{false≢true}
+use Rattle.std.specs.List.{range_with_len}
+use Rattle.binary64.specs.Number.{pick}
+use Rattle.pde.specs.Search.{or_else, first_of}
 
-module _ {A : Type 0} (or_else : A → A → A) where
-  -- what f gives of the numbers from i to n − 1, and `rest` where it gives nothing
-  unfoldable pub left_of : A → (ℕ → A) → ℕ → ℕ → A
-  left_of rest f i n = first_of or_else rest f i (n - i)
+module _ {A : Type 0} (f : ℕ → Option A) where
+  -- what f gives of the numbers from i to n − 1
+  unfoldable pub left_of : ℕ → ℕ → Option A
+  left_of i n = first_of f i (n - i)
 
-  pub left-all : (rest : A) (f : ℕ → A) (n : ℕ) → first_of or_else rest f 0 n ≡ left_of rest f 0 n
+  pub left-all : (n : ℕ) → first_of f 0 n ≡ left_of 0 n
   unfolding left_of
-  left-all rest f n = let e : n - 0 ≡ n = omega arith in rw e
+  left-all n = let e : n - 0 ≡ n = omega arith in rw e
 
-  left_step : (rest : A) (f : ℕ → A) (i n : ℕ) → i < n → left_of rest f i n ≡ or_else (f i) (left_of rest f (i + 1) n)
+  left_step : (i n : ℕ) → i < n → left_of i n ≡ or_else (f i) (left_of (i + 1) n)
   unfolding left_of first_of
-  left_step rest f i n h = let e : n - i ≡ suc (n - suc i) = omega arith in rw (e, add-one)
-
-  then_rest : (none rest : A) (f : ℕ → A) → or_else none rest ≡ rest → ((a b : A) → or_else (or_else a b) rest ≡ or_else a (or_else b rest)) → (i k : ℕ)
-      → or_else (first_of or_else none f i k) rest ≡ first_of or_else rest f i k
-  unfolding first_of
-  then_rest none rest f e assoc i zero = e
-  then_rest none rest f e assoc i (suc k) = assoc (f i) (first_of or_else none f (suc i) k) ∙ ap (λ (s : A). or_else (f i) s) (then_rest none rest f e assoc (suc i) k)
-
-  -- a search and then another answer
-  pub left_then : (none rest : A) (f : ℕ → A) → or_else none rest ≡ rest → ((a b : A) → or_else (or_else a b) rest ≡ or_else a (or_else b rest)) → (n : ℕ)
-      → or_else (first_of or_else none f 0 n) rest ≡ left_of rest f 0 n
-  left_then none rest f e assoc n = then_rest none rest f e assoc 0 n ∙ left-all rest f n
+  left_step i n h = let e : n - i ≡ suc (n - suc i) = omega arith in rw (e, add-one)
 
   -- a turn, and the end; w is the answer of the whole search
-  module _ {w : A} (rest : A) (f : ℕ → A) (i n : ℕ) where
-    pub left_skip : (none : A) → ((s : A) → or_else none s ≡ s) → i < n → f i ≡ none → w ≡ left_of rest f i n → w ≡ left_of rest f (i + 1) n
-    left_skip none skips h e p = p ∙ left_step rest f i n h ∙ ap (λ (s : A). or_else s (left_of rest f (i + 1) n)) e ∙ skips (left_of rest f (i + 1) n)
+  module _ {w : Option A} (i n : ℕ) where
+    pub left_skip : i < n → f i ≡ None → w ≡ left_of i n → w ≡ left_of (i + 1) n
+    left_skip h e p = p ∙ left_step i n h ∙ ap (λ (s : Option A). or_else s (left_of (i + 1) n)) e
 
-    pub left_found : (a : A) → ((s : A) → or_else a s ≡ a) → i < n → f i ≡ a → w ≡ left_of rest f i n → a ≡ w
-    left_found a keeps h e p = sym (p ∙ left_step rest f i n h ∙ ap (λ (s : A). or_else s (left_of rest f (i + 1) n)) e ∙ keeps (left_of rest f (i + 1) n))
+    pub left_found : {a : A} → i < n → f i ≡ Some a → w ≡ left_of i n → Some a ≡ w
+    left_found {a} h e p = sym (p ∙ left_step i n h ∙ ap (λ (s : Option A). or_else s (left_of (i + 1) n)) e)
 
-    pub left_done : n ≤ i → w ≡ left_of rest f i n → w ≡ rest
+    pub left_done : n ≤ i → w ≡ left_of i n → None ≡ w
     unfolding left_of first_of
-    left_done h p = let e : n - i ≡ 0 = omega arith in rw e at p
+    left_done h p = let e : n - i ≡ 0 = omega arith in sym (rw e at p)
 
-  -- a search in a turn of a search
-  pub left_enter : {w : A} (none : A) (skips : (s : A) → or_else none s ≡ s) (assoc : (a b s : A) → or_else (or_else a b) s ≡ or_else a (or_else b s)) (rest : A) (f g : ℕ → A) (i n k : ℕ)
-      → i < n → f i ≡ first_of or_else none g 0 k → w ≡ left_of rest f i n → w ≡ left_of (left_of rest f (i + 1) n) g 0 k
-  left_enter none skips assoc rest f g i n k h e p =
-      let next : A = left_of rest f (i + 1) n in
-      p ∙ left_step rest f i n h ∙ ap (λ (s : A). or_else s next) e ∙ left_then none next g (skips next) (λ a b. assoc a b next) k
+-- A search by a test, as `find` over a range makes it, is one among the answers that the test lets through.
+pub find_first : {A : Type 0} (g : ℕ → A) (test : ℕ → Bool) (i k : ℕ) → option_map g (find test (range_with_len i k)) ≡ first_of (λ j. pick (test j) (Some (g j)) None) i k
+unfolding first_of
+find_first {A} g test i zero = refl
+find_first {A} g test i (suc k) =
+    let left : Option A = first_of (λ j. pick (test j) (Some (g j)) None) (suc i) k in
+    elim (test i) as (λ b. option_map g (cond b (Some i) (find test (range_with_len (i + 1) k))) ≡ or_else (pick b (Some (g i)) None) left) [
+      | true ↦ refl
+      | false ↦ rw add-one (find_first g test (suc i) k)
+    ]
+
+find_below : (test : ℕ → Bool) (i k : ℕ) {a : ℕ} → find test (range_with_len i k) ≡ Some a → a < i + k
+find_below test i zero h = absurd (false≢true (ap is_some h))
+find_below test i (suc k) {a} h =
+    let P : Bool → Type 0 = λ b. cond b (Some i) (find test (range_with_len (i + 1) k)) ≡ Some a → a < i + suc k in
+    let each : (b : Bool) → P b = λ b. elim b as P [ true ↦ λ e. omega (arith, ap (λ (o : Option ℕ). unwrap_or o 0) e) | false ↦ λ e. omega (arith, find_below test (i + 1) k e) ] in
+    each (test i) h
+
+module _ {A : Type 0} (g : ℕ → A) (test : ℕ → Bool) (n : ℕ) {r : Option ℕ} (is : option_map (λ x. x) r ≡ find test (range_with_len 0 n)) where
+  pub found_first : {a : ℕ} → r ≡ Some a → Some (g a) ≡ first_of (λ j. pick (test j) (Some (g j)) None) 0 n
+  found_first {a} p =
+      let e : Some a ≡ find test (range_with_len 0 n) = rw p at is in
+      ap (λ (o : Option ℕ). option_map g o) e ∙ find_first g test 0 n
+
+  pub none_first : r ≡ None → None ≡ first_of (λ j. pick (test j) (Some (g j)) None) 0 n
+  none_first p =
+      let e : None ≡ find test (range_with_len 0 n) = rw p at is in
+      ap (λ (o : Option ℕ). option_map g o) e ∙ find_first g test 0 n
+
+pub found_below : (test : ℕ → Bool) (n : ℕ) {r : Option ℕ} → option_map (λ x. x) r ≡ find test (range_with_len 0 n) → {a : ℕ} → r ≡ Some a → a < n
+found_below test n is p = omega (arith, find_below test 0 n (sym (rw p at is)))

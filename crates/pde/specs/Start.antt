@@ -1,5 +1,5 @@
 -- Where the path starts (mesh/pde.rs, `find_triangle_containing` and `pick_start`; document 01, Start pass). Definitions only. Assumes nothing.
-use Rattle.std.specs.Prelude.{ℕ, suc, Bool, false, ◌&&◌, ◌||◌, List, [], ◌∷◌, eqb, Float}
+use Rattle.std.specs.Prelude.{ℕ, suc, Bool, false, ◌&&◌, ◌||◌, List, [], ◌∷◌, Option, Some, None, eqb, Float}
 use Rattle.std.specs.Float.{inf}
 use Rattle.std.specs.Float.Ieee.{lt}
 use Rattle.binary64.specs.Arith.{◌⊕◌, ◌⊗◌, ◌⊘◌}
@@ -8,9 +8,8 @@ use Rattle.binary64.specs.Number.{pick}
 use Rattle.plane.specs.declared.Point.{Point}
 use Rattle.plane.specs.Plane.{point, point_in_triangle}
 use Rattle.mesh.specs.Mesh.{vertex, corner, neighbour, no_neighbour, onward, tag_of}
-use Rattle.pde.specs.Search.{first_of}
-use Rattle.pde.specs.declared.Start.{Start}
-use Rattle.pde.specs.declared.Start.TheVariants.{At, Nothing}
+use Rattle.pde.specs.Search.{or_else, first_of}
+use Rattle.pde.specs.declared.Entry.{Entry}
 
 -- no edge
 abbrev pub no_edge : ℕ
@@ -20,22 +19,18 @@ no_edge = 3
 abbrev pub inner : ℕ
 inner = 2
 
-abbrev pub or_else : Start → Start → Start
-or_else (At p t e) s = At p t e
-or_else Nothing s = s
-
-abbrev pub first_start : (ℕ → Start) → ℕ → ℕ → Start
-first_start f i k = first_of or_else Nothing f i k
+abbrev pub entry : Point → ℕ → ℕ → Option Entry
+entry p t e = Some (record { point = p; triangle = t; edge = e })
 
 -- A given start lies in the first triangle that `point_in_triangle` accepts.
 abbrev pub contains : List Float → List ℕ → Point → ℕ → Bool
 contains vs ts p t = point_in_triangle p (vertex vs (corner ts t 0)) (vertex vs (corner ts t 1)) (vertex vs (corner ts t 2))
 
-unfoldable pub contained_in : List Float → List ℕ → Point → ℕ → Start
-contained_in vs ts p t = pick (contains vs ts p t) (At p t no_edge) Nothing
+unfoldable pub contained_in : List Float → List ℕ → Point → ℕ → Option Entry
+contained_in vs ts p t = pick (contains vs ts p t) (entry p t no_edge) None
 
-unfoldable pub triangle_containing : List Float → List ℕ → ℕ → Point → Start
-triangle_containing vs ts count p = first_start (contained_in vs ts p) 0 count
+unfoldable pub triangle_containing : List Float → List ℕ → ℕ → Point → Option Entry
+triangle_containing vs ts count p = first_of (contained_in vs ts p) 0 count
 
 -- Otherwise: the middle of the first edge with no neighbour and both corners inner;
 abbrev pub is_inner : List ℕ → List ℕ → List ℕ → ℕ → ℕ → Bool
@@ -47,14 +42,14 @@ middle vs ts t e =
     let vb = vertex vs (corner ts t (onward e)) in
     point ((va.x ⊕ vb.x) ⊗ half) ((va.y ⊕ vb.y) ⊗ half)
 
-unfoldable pub inner_edge : List Float → List ℕ → List ℕ → List ℕ → ℕ → ℕ → Start
-inner_edge vs ts ns tags t e = pick (is_inner ts ns tags t e) (At (middle vs ts t e) t e) Nothing
+unfoldable pub inner_edge : List Float → List ℕ → List ℕ → List ℕ → ℕ → ℕ → Option Entry
+inner_edge vs ts ns tags t e = pick (is_inner ts ns tags t e) (entry (middle vs ts t e) t e) None
 
-unfoldable pub inner_edge_of : List Float → List ℕ → List ℕ → List ℕ → ℕ → Start
-inner_edge_of vs ts ns tags t = first_start (inner_edge vs ts ns tags t) 0 3
+unfoldable pub inner_edge_of : List Float → List ℕ → List ℕ → List ℕ → ℕ → Option Entry
+inner_edge_of vs ts ns tags t = first_of (inner_edge vs ts ns tags t) 0 3
 
-unfoldable pub first_inner : List Float → List ℕ → List ℕ → List ℕ → ℕ → Start
-first_inner vs ts ns tags count = first_start (inner_edge_of vs ts ns tags) 0 count
+unfoldable pub first_inner : List Float → List ℕ → List ℕ → List ℕ → ℕ → Option Entry
+first_inner vs ts ns tags count = first_of (inner_edge_of vs ts ns tags) 0 count
 
 -- else the first least vertex by `<` from +infinity, index 0 if none is less,
 unfoldable pub least_from : ℕ → ℕ → Float → List Float → ℕ
@@ -75,11 +70,11 @@ centroid vs ts t =
     let vc = vertex vs (corner ts t 2) in
     point ((va.x ⊕ vb.x ⊕ vc.x) ⊘ three) ((va.y ⊕ vb.y ⊕ vc.y) ⊘ three)
 
-unfoldable pub centroid_with : List Float → List ℕ → ℕ → ℕ → Start
-centroid_with vs ts v t = pick (has ts v t) (At (centroid vs ts t) t no_edge) Nothing
+unfoldable pub centroid_with : List Float → List ℕ → ℕ → ℕ → Option Entry
+centroid_with vs ts v t = pick (has ts v t) (entry (centroid vs ts t) t no_edge) None
 
-unfoldable pub first_with : List Float → List ℕ → ℕ → ℕ → Start
-first_with vs ts count v = first_start (centroid_with vs ts v) 0 count
+unfoldable pub first_with : List Float → List ℕ → ℕ → ℕ → Option Entry
+first_with vs ts count v = first_of (centroid_with vs ts v) 0 count
 
-unfoldable pub pick_start : List Float → List ℕ → List ℕ → List ℕ → ℕ → List Float → Start
+unfoldable pub pick_start : List Float → List ℕ → List ℕ → List ℕ → ℕ → List Float → Option Entry
 pick_start vs ts ns tags count us = or_else (first_inner vs ts ns tags count) (first_with vs ts count (least_vertex us))

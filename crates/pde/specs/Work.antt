@@ -2,25 +2,24 @@
 use Rattle.std.specs.Prelude.{List, ℕ, ◌+◌, ◌*◌, ◌≤◌, length, Float}
 use Rattle.plane.specs.declared.Point.{Point}
 use Rattle.stretch.specs.Stretch.{part}
-use Rattle.mesh.specs.declared.Mesh.{Mesh}
-use Rattle.mesh.specs.Work.{vertices_of, triangles_of, neighbours_of, Meshed}
+use Rattle.mesh.specs.Work.{vertices_of, triangles_of, neighbours_of, MeshAt, Meshed}
 use Rattle.pde.specs.declared.Rule.{Rule}
 use Rattle.pde.specs.declared.Crossing.{Crossing}
 use Rattle.pde.specs.declared.Walk.{Walk}
 use Rattle.pde.specs.Crossing.{crossing_along}
 
 -- the field's n numbers start at u
-pub record Fielded (floats : List Float) (words : List ℕ) (m : Mesh) (u : ℕ) : Type 0 where
+pub record Fielded (floats : List Float) (words : List ℕ) (m : MeshAt) (u : ℕ) : Type 0 where
   pub meshed : Meshed floats words m
   pub field_fits : u + m.n ≤ length floats
 
-unfoldable pub field_of : List Float → Mesh → ℕ → List Float
+unfoldable pub field_of : List Float → MeshAt → ℕ → List Float
 field_of floats m u = part floats u m.n
 
-unfoldable pub gradients_of : List Float → Mesh → ℕ → List Float
+unfoldable pub gradients_of : List Float → MeshAt → ℕ → List Float
 gradients_of floats m at = part floats at (2 * m.t)
 
-abbrev pub crossing_in : List Float → List ℕ → Mesh → ℕ → Rule → Float → Point → Point → ℕ → ℕ → Crossing
+abbrev pub crossing_in : List Float → List ℕ → MeshAt → ℕ → Rule → Float → Point → Point → ℕ → ℕ → Crossing
 crossing_in floats words m u rule step g pos t entry =
     crossing_along rule (vertices_of floats m) (triangles_of words m) (neighbours_of words m) m.t (field_of floats m u) g step pos t entry
 

@@ -1,28 +1,25 @@
 // One crossing of a triangle: along the level line turned outward by the step.
-ghost use Rattle.std.specs.Prelude.{◌≡◌, ◌+◌, ◌*◌, ◌<◌, ◌≤◌, length};
-ghost use Rattle.mesh.specs.Mesh as Lists;
-ghost use Rattle.mesh.specs.Work.{vertices_of, triangles_of, neighbours_of, Linked};
+ghost use Rattle.std.specs.Prelude.{◌≡◌, ◌+◌, ◌*◌, ◌<◌, length};
+ghost use Rattle.mesh.specs.Mesh.{triangle_count, neighbour, triangle_of};
 ghost use Rattle.pde.specs.Bounds.{SideIn};
 ghost use Rattle.pde.specs.Crossing as Crossings;
-ghost use Rattle.pde.specs.Work.{Fielded, field_of, gradients_of, crossing_in};
 
-use super::{Beyond, Crossing, Exit, Rule, Side, edges};
+use super::{Beyond, Crossing, Entry, Exit, Field, Rule, Side, edges};
 use mesh::Mesh;
 use plane::Point;
 
 // Bits 400921fb54442d18.
 const PI: f64 = 3.141592653589793;
 
-// The gradient of triangle t.
-pub fn gradient_at(floats: &[f64], m: Mesh, gradients: usize, t: usize) -> Point
-    requires { (gradients + 2 * m.t ≤ length floats.now) × (t < m.t) }
-    ensures { result ≡ Crossings.gradient_at (gradients_of floats.now m gradients) t }
+// The gradient of triangle t, of those of all triangles.
+#[tactic(auto, unfolding(crate::specs::Crossing::gradient_at))]
+pub fn gradient_at(gradients: &[f64], t: usize) -> Point
+    requires { 2 * t + 1 < length gradients.now }
+    ensures { result ≡ Crossings.gradient_at gradients.now t }
 {
-    let k = gradients + 2 * t;
-    let l = k + 1;
     Point {
-        x: floats[k],
-        y: floats[l],
+        x: gradients[2 * t],
+        y: gradients[2 * t + 1],
     }
 }
 
@@ -45,112 +42,81 @@ fn direction(step: f64, g: Point, mag: f64) -> Point
     }
 }
 
-// The field at p, interpolated in triangle t.
-fn value_in(floats: &[f64], words: &[u32], m: Mesh, u: usize, t: usize, p: Point) -> f64
-    requires { (Fielded floats.now words.now m u) × (t < m.t) }
-    ensures { result ≡ Crossings.value_in (vertices_of floats.now m) (triangles_of words.now m) (field_of floats.now m u) t p }
+// The edge that is entered beyond edge e of triangle t: over a cut edge, or the neighbour's that names us back.
+fn entered(mesh: &Mesh, t: usize, e: usize) -> Option<Side>
+    requires { (t < triangle_count mesh.now.triangles.now) × (e < 3) }
+    ensures is { result ≡ Crossings.entered mesh.now.triangles.now mesh.now.neighbours.now (triangle_count mesh.now.triangles.now) t e }
+    ensures inside { SideIn (triangle_count mesh.now.triangles.now) result }
 {
-    let a = mesh::corner(words, m, t, 0);
-    let b = mesh::corner(words, m, t, 1);
-    let c = mesh::corner(words, m, t, 2);
-    let va = mesh::vertex(floats, m, a);
-    let vb = mesh::vertex(floats, m, b);
-    let vc = mesh::vertex(floats, m, c);
-    let at_a = u + a;
-    let at_b = u + b;
-    let at_c = u + c;
-    plane::barycentric_interpolate(p, va, vb, vc, floats[at_a], floats[at_b], floats[at_c])
-}
-
-// Into a side's triangle by its edge, unless the field at p is above the threshold there.
-fn entering(
-    floats: &[f64],
-    words: &[u32],
-    m: Mesh,
-    u: usize,
-    above: f64,
-    p: Point,
-    side: Side,
-    other: Beyond,
-) -> Beyond
-    requires { (Fielded floats.now words.now m u) × (SideIn m.t side) }
-    ensures { result ≡ Crossings.entering above (vertices_of floats.now m) (triangles_of words.now m) (field_of floats.now m u) p side other }
-{
-    let Side::Of(t, e) = side else {
-        return other;
-    };
-    if value_in(floats, words, m, u, t, p) > above {
-        return Beyond::Above;
+    match mesh.neighbour(t, e) {
+        None => edges::find_cut_edge_match(mesh, t, e),
+        Some(next) => edges::entry_edge_of(mesh, next, t),
     }
-    Beyond::Into(t, e)
-}
-
-// The edge that is entered beyond edge e of triangle t, whose neighbour is `next`: over a cut edge, or the one that names us back.
-fn entered(words: &[u32], m: Mesh, t: usize, e: usize, next: u32) -> Side
-    requires { (Linked words.now m) × (t < m.t) × (e < 3) × (next ≡ Lists.neighbour (neighbours_of words.now m) t e) }
-    ensures { (result ≡ Crossings.entered (triangles_of words.now m) (neighbours_of words.now m) m.t t e) × (SideIn m.t result) }
-{
-    if next == mesh::NONE {
-        return edges::find_cut_edge_match(words, m, t, e);
-    }
-    edges::entry_edge_of(words, m, mesh::wide(next), t)
 }
 
 // Where no edge is entered: the border, or a neighbour that does not name us back.
-fn unentered(next: u32) -> Beyond
-    ensures { result ≡ Crossings.unentered next }
+fn unentered(mesh: &Mesh, t: usize, e: usize) -> Beyond
+    requires { (t < triangle_count mesh.now.triangles.now) × (e < 3) }
+    ensures { result ≡ Crossings.unentered (neighbour mesh.now.neighbours.now t e) }
 {
-    if next == mesh::NONE {
-        return Beyond::Border;
+    match mesh.neighbour(t, e) {
+        None => Beyond::Border,
+        Some(_) => Beyond::Unnamed,
     }
-    Beyond::Unnamed
 }
 
-// Beyond edge e of triangle t, left at p.
-fn beyond(
-    floats: &[f64],
-    words: &[u32],
-    m: Mesh,
-    u: usize,
-    above: f64,
-    t: usize,
-    e: usize,
-    p: Point,
-) -> Beyond
-    requires { (Fielded floats.now words.now m u) × (t < m.t) × (e < 3) }
-    ensures { result ≡ Crossings.beyond above (vertices_of floats.now m) (triangles_of words.now m) (neighbours_of words.now m) m.t (field_of floats.now m u) t e p }
-{
-    let next = mesh::neighbour(words, m, t, e);
-    let side = entered(words, m, t, e, next);
-    entering(floats, words, m, u, above, p, side, unentered(next))
-}
-
-// What crossing triangle t, whose gradient is g, from `pos`, entered by an edge, comes to.
-pub fn crossing(
-    floats: &[f64],
-    words: &[u32],
-    m: Mesh,
-    u: usize,
-    rule: Rule,
-    step: f64,
-    g: Point,
-    pos: Point,
-    t: usize,
-    entry: usize,
-) -> Crossing
-    requires { (Fielded floats.now words.now m u) × (t < m.t) }
-    ensures { result ≡ crossing_in floats.now words.now m u rule step g pos t entry }
-{
-    let mag = magnitude(g);
-    if mag < rule.dull {
-        return Crossing::Dull;
+impl<'a> Field<'a> {
+    // The field at p, interpolated in triangle t.
+    fn value_in(&self, t: usize, p: Point) -> f64
+        requires { t < triangle_count self.now.mesh.triangles.now }
+        ensures { result ≡ Crossings.value_in self.now.mesh.vertices.now self.now.mesh.triangles.now self.now.values.now t p }
+    {
+        let a = self.mesh.corner(t, 0);
+        let b = self.mesh.corner(t, 1);
+        let c = self.mesh.corner(t, 2);
+        let va = self.mesh.vertex(a);
+        let vb = self.mesh.vertex(b);
+        let vc = self.mesh.vertex(c);
+        plane::barycentric_interpolate(
+            p,
+            va,
+            vb,
+            vc,
+            self.values[a],
+            self.values[b],
+            self.values[c],
+        )
     }
-    let dir = direction(step, g, mag);
-    let best = edges::find_exit_edge(floats, words, m, t, pos, dir, entry, rule.dull);
-    let exit = best.exit;
-    let Exit::Through(e, p) = exit else {
-        return Crossing::Stuck;
-    };
-    let n = distance::pieces(best.square, rule.spacing);
-    Crossing::Leaves(p, n, beyond(floats, words, m, u, rule.above, t, e, p))
+
+    // Beyond an edge of triangle t, left at an exit.
+    fn beyond(&self, above: f64, t: usize, exit: Exit) -> Beyond
+        requires { (t < triangle_count self.now.mesh.triangles.now) × (exit.edge < 3) }
+        ensures { result ≡ Crossings.beyond above self.now.mesh.vertices.now self.now.mesh.triangles.now self.now.mesh.neighbours.now (triangle_count self.now.mesh.triangles.now) self.now.values.now t exit.edge exit.point }
+    {
+        let Some(side) = entered(&self.mesh, t, exit.edge) else {
+            return unentered(&self.mesh, t, exit.edge);
+        };
+        if self.value_in(side.triangle, exit.point) > above {
+            return Beyond::Above;
+        }
+        Beyond::Into(side)
+    }
+
+    // What crossing a triangle, whose gradient is g, from an entry comes to.
+    pub fn crossing(&self, rule: Rule, step: f64, g: Point, entry: Entry) -> Crossing
+        requires { entry.triangle < triangle_count self.now.mesh.triangles.now }
+        ensures { result ≡ Crossings.crossing_along rule self.now.mesh.vertices.now self.now.mesh.triangles.now self.now.mesh.neighbours.now (triangle_count self.now.mesh.triangles.now) self.now.values.now g step entry.point entry.triangle entry.edge }
+    {
+        let mag = magnitude(g);
+        if mag < rule.dull {
+            return Crossing::Dull;
+        }
+        let dir = direction(step, g, mag);
+        let best = edges::find_exit_edge(&self.mesh, entry, dir, rule.dull);
+        let Some(exit) = best.exit else {
+            return Crossing::Stuck;
+        };
+        let n = distance::pieces(best.square, rule.spacing);
+        Crossing::Leaves(exit.point, n, self.beyond(rule.above, entry.triangle, exit))
+    }
 }

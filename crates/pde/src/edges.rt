@@ -1,11 +1,11 @@
 // Where a ray leaves a triangle, and which edge is entered beyond.
 ghost use Rattle.std.specs.Prelude.{◌≡◌, ◌<◌};
-ghost use Rattle.mesh.specs.Work.{vertices_of, triangles_of, neighbours_of, Linked, Meshed};
+ghost use Rattle.mesh.specs.Mesh.{triangle_count};
 ghost use Rattle.pde.specs.Exit as Exits;
 
-use super::{Candidate, Exit, Side};
+use super::{Candidate, Entry, Exit, Side};
 use mesh::Mesh;
-use plane::{Hit, Point};
+use plane::Point;
 
 // The square of the distance of two points.
 fn squared(p: Point, q: Point) -> f64
@@ -22,18 +22,18 @@ pub fn distance(p: Point, q: Point) -> f64
     root::sqrt(squared(p, q))
 }
 
-// The nearer of a hit on edge e, if it is farther than the least, and the best so far.
-fn offered(pos: Point, e: usize, hit: Hit, best: Candidate, least: f64) -> Candidate
-    ensures { Exits.rooted result ≡ Exits.offered least pos e hit (Exits.rooted best) }
+// The nearer of a hit on an edge, if it is farther than the least, and the best so far.
+fn offered(from: Point, edge: usize, hit: Option<Point>, best: Candidate, least: f64) -> Candidate
+    ensures { Exits.rooted result ≡ Exits.offered least from edge hit (Exits.rooted best) }
 {
-    let Hit::At(p) = hit else {
+    let Some(point) = hit else {
         return best;
     };
-    let square = squared(pos, p);
+    let square = squared(from, point);
     if distance::is_nearer(square, best.square, least) {
         return Candidate {
             square,
-            exit: Exit::Through(e, p),
+            exit: Some(Exit { edge, point }),
         };
     }
     best
@@ -41,103 +41,88 @@ fn offered(pos: Point, e: usize, hit: Hit, best: Candidate, least: f64) -> Candi
 
 // Edge e, unless it is the entry edge.
 fn considered(
-    floats: &[f64],
-    words: &[u32],
-    m: Mesh,
-    t: usize,
-    pos: Point,
+    mesh: &Mesh,
+    entry: Entry,
     dir: Point,
-    entry: usize,
     e: usize,
     best: Candidate,
     least: f64,
 ) -> Candidate
-    requires { (Meshed floats.now words.now m) × (t < m.t) × (e < 3) }
-    ensures { Exits.rooted result ≡ Exits.considered least (vertices_of floats.now m) (triangles_of words.now m) t pos dir entry e (Exits.rooted best) }
+    requires { (entry.triangle < triangle_count mesh.now.triangles.now) × (e < 3) }
+    ensures { Exits.rooted result ≡ Exits.considered least mesh.now.vertices.now mesh.now.triangles.now entry.triangle entry.point dir entry.edge e (Exits.rooted best) }
 {
-    if e == entry {
+    if e == entry.edge {
         return best;
     }
-    let a = mesh::corner(words, m, t, e);
-    let far = mesh::onward(e);
-    let b = mesh::corner(words, m, t, far);
-    let pa = mesh::vertex(floats, m, a);
-    let pb = mesh::vertex(floats, m, b);
-    let hit = plane::get_ray_line_intersection(pos, dir, pa, pb);
-    offered(pos, e, hit, best, least)
+    let a = mesh.corner_point(entry.triangle, e);
+    let b = mesh.corner_point(entry.triangle, mesh::onward(e));
+    let hit = plane::get_ray_line_intersection(entry.point, dir, a, b);
+    offered(entry.point, e, hit, best, least)
 }
 
-// The nearest edge that the ray from `pos` along `dir` meets in triangle t farther than the least, with the point and the square of how far it is.
-pub fn find_exit_edge(
-    floats: &[f64],
-    words: &[u32],
-    m: Mesh,
-    t: usize,
-    pos: Point,
-    dir: Point,
-    entry: usize,
-    least: f64,
-) -> Candidate
-    requires { (Meshed floats.now words.now m) × (t < m.t) }
-    ensures { Exits.rooted result ≡ Exits.nearest_of least (vertices_of floats.now m) (triangles_of words.now m) t pos dir entry 3 }
+// The nearest edge that the ray from an entry's point along `dir` meets in its triangle farther than the least, with the point and the square of how far it is.
+pub fn find_exit_edge(mesh: &Mesh, entry: Entry, dir: Point, least: f64) -> Candidate
+    requires { entry.triangle < triangle_count mesh.now.triangles.now }
+    ensures { Exits.rooted result ≡ Exits.nearest_of least mesh.now.vertices.now mesh.now.triangles.now entry.triangle entry.point dir entry.edge 3 }
 {
     let mut best = Candidate {
         square: 1.0 / 0.0,
-        exit: Exit::Nothing,
+        exit: None,
     };
-    for e in 0..3usize {
-        best = considered(floats, words, m, t, pos, dir, entry, e, best, least);
+    // A fold over three edges is no plainer.
+    for e in 0..3 {
+        best = considered(mesh, entry, dir, e, best, least);
     }
     best
 }
 
 // The first edge of triangle t whose neighbour is `prev`.
-pub fn entry_edge_of(words: &[u32], m: Mesh, t: usize, prev: usize) -> Side
-    requires { (Linked words.now m) × (t < m.t) }
-    ensures { result ≡ Exits.entry_edge (neighbours_of words.now m) t prev }
+pub fn entry_edge_of(mesh: &Mesh, t: usize, prev: usize) -> Option<Side>
+    requires { t < triangle_count mesh.now.triangles.now }
+    ensures { result ≡ Exits.entry_edge mesh.now.neighbours.now t prev }
 {
-    for e in 0..3 {
-        let next = mesh::wide(mesh::neighbour(words, m, t, e));
-        if next == prev {
-            return Side::Of(t, e);
-        }
-    }
-    Side::Nothing
+    let edge = (0..3).find(|e| mesh.neighbour_word(t, *e) as usize == prev)?;
+    Some(Side { triangle: t, edge })
 }
 
 // Edge e of triangle t has no neighbour and joins b to a.
-fn is_cut(words: &[u32], m: Mesh, a: usize, b: usize, t: usize, e: usize) -> bool
-    requires { (Linked words.now m) × (t < m.t) × (e < 3) }
-    ensures { result ≡ Exits.is_cut (triangles_of words.now m) (neighbours_of words.now m) a b t e }
+fn is_cut(mesh: &Mesh, a: usize, b: usize, t: usize, e: usize) -> bool
+    requires { (t < triangle_count mesh.now.triangles.now) × (e < 3) }
+    ensures { result ≡ Exits.is_cut mesh.now.triangles.now mesh.now.neighbours.now a b t e }
 {
-    if mesh::neighbour(words, m, t, e) != mesh::NONE {
+    if mesh.neighbour(t, e).is_some() {
         return false;
     }
-    if mesh::corner(words, m, t, e) != b {
+    if mesh.corner(t, e) != b {
         return false;
     }
-    mesh::corner(words, m, t, mesh::onward(e)) == a
+    mesh.corner(t, mesh::onward(e)) == a
+}
+
+// The first edge of triangle t that has no neighbour and joins b to a.
+fn cut_edge_of(mesh: &Mesh, a: usize, b: usize, t: usize) -> Option<Side>
+    requires { t < triangle_count mesh.now.triangles.now }
+    ensures { result ≡ Exits.cut_edge_of mesh.now.triangles.now mesh.now.neighbours.now a b t }
+{
+    let edge = (0..3).find(|e| is_cut(mesh, a, b, t, *e))?;
+    Some(Side { triangle: t, edge })
 }
 
 // Over a cut edge: the first other triangle, then the first edge, that has no neighbour and the corners reversed.
-pub fn find_cut_edge_match(words: &[u32], m: Mesh, here: usize, e: usize) -> Side
-    requires { (Linked words.now m) × (here < m.t) × (e < 3) }
-    ensures { result ≡ Exits.cut_match (triangles_of words.now m) (neighbours_of words.now m) m.t here e }
+// By a for, as std has no law of what `find_map` finds in a range.
+pub fn find_cut_edge_match(mesh: &Mesh, here: usize, e: usize) -> Option<Side>
+    requires { (here < triangle_count mesh.now.triangles.now) × (e < 3) }
+    ensures { result ≡ Exits.cut_match mesh.now.triangles.now mesh.now.neighbours.now (triangle_count mesh.now.triangles.now) here e }
 {
-    let a = mesh::corner(words, m, here, e);
-    let b = mesh::corner(words, m, here, mesh::onward(e));
-    let count = m.t;
-    let mut found = Side::Nothing;
-    'search: for ti in 0..count {
-        if ti == here {
+    let a = mesh.corner(here, e);
+    let b = mesh.corner(here, mesh::onward(e));
+    for t in 0..mesh.triangle_count() {
+        if t == here {
             continue;
         }
-        for ei in 0..3 {
-            if is_cut(words, m, a, b, ti, ei) {
-                found = Side::Of(ti, ei);
-                break 'search;
-            }
+        if let Some(side) = cut_edge_of(mesh, a, b, t) {
+            return Some(side);
         }
     }
-    found
+    None
 }

@@ -1,37 +1,66 @@
 // The spiral: where it leaves a triangle, and one crossing.
 #![tactic(auto)]
 
+ghost use Rattle.std.specs.Prelude.{◌≡◌, length};
+
 pub mod cross;
 pub mod edges;
 
+use mesh::Mesh;
 use plane::Point;
 
-// Where the path starts: a point in a triangle, and the edge it came in by (3: none).
+// A mesh, and a value at each of its vertices.
 #[derive(Clone, Copy)]
-pub enum Start {
-    At(Point, usize, usize),
-    Nothing,
+pub struct Field<'a> {
+    pub mesh: Mesh<'a>,
+    pub values: &'a [f64],
+    pub ghost one_each: { length values.now ≡ length mesh.tags.now },
 }
 
-// An exit is nothing, or an edge with its point.
+impl<'a> Field<'a> {
+    ghost use Rattle.mesh.specs.Work.{first_at};
+    ghost use Rattle.pde.specs.Work.{Fielded};
+    ghost use Rattle.pde.specs.Stands.{FieldStands};
+
+    // The mesh of n vertices and t triangles whose lists stand first in two buffers, with the n values from u on.
+    pub fn of(floats: &'a [f64], words: &'a [u32], n: usize, t: usize, u: usize) -> Field<'a>
+        requires { Fielded floats.now words.now (first_at n t) u }
+        ensures { FieldStands floats.now words.now (first_at n t) u result }
+    {
+        Field {
+            mesh: Mesh::of(floats, words, n, t),
+            values: &floats[u..u + n],
+        }
+    }
+}
+
+// A point in a triangle, and the edge by which the path came in (3: none).
 #[derive(Clone, Copy)]
-pub enum Exit {
-    Through(usize, Point),
-    Nothing,
+pub struct Entry {
+    pub point: Point,
+    pub triangle: usize,
+    pub edge: usize,
+}
+
+// Where a ray leaves a triangle: the edge, and the point on it.
+#[derive(Clone, Copy)]
+pub struct Exit {
+    pub edge: usize,
+    pub point: Point,
 }
 
 // The nearest exit so far, and the square of how far it is.
 #[derive(Clone, Copy)]
 pub struct Candidate {
     pub square: f64,
-    pub exit: Exit,
+    pub exit: Option<Exit>,
 }
 
-// An edge of a triangle: the triangle and the edge's number; or none.
+// An edge of a triangle.
 #[derive(Clone, Copy)]
-pub enum Side {
-    Of(usize, usize),
-    Nothing,
+pub struct Side {
+    pub triangle: usize,
+    pub edge: usize,
 }
 
 // Beyond an exit: the border (end 3), a neighbour that does not name us back (end 4), a value above the threshold (end 5),
@@ -41,7 +70,7 @@ pub enum Beyond {
     Border,
     Unnamed,
     Above,
-    Into(usize, usize),
+    Into(Side),
 }
 
 // What a crossing comes to before the room is looked at: the gradient is too small (end 1), there is no exit (end 2), or an exit's point, in how many pieces the way to it is laid, and what lies beyond it.

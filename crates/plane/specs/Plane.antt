@@ -1,13 +1,11 @@
 -- The plane geometry of geo/algo/intersect.rs, geo/algo/interp.rs and mesh/pde.rs: every operation rounds once (IEEE 754-2019, 5.4.1), in the order written here,
 -- and a comparison with a NaN is false (5.11). Definitions only. Assumes nothing.
-use Rattle.std.specs.Prelude.{Bool, not, ◌&&◌, ◌||◌, Float}
+use Rattle.std.specs.Prelude.{Bool, not, ◌&&◌, ◌||◌, Option, Some, None, Float}
 use Rattle.std.specs.Float.Ieee.{neg, lt, le}
 use Rattle.binary64.specs.Arith.{◌⊕◌, ◌⊖◌, ◌⊗◌, ◌⊘◌}
 use Rattle.binary64.specs.Constants.{plus_zero, one, three, tiny, small, one_and_small}
 use Rattle.binary64.specs.Number.{pick, abs_of, clamp_of, at_least}
 use Rattle.plane.specs.declared.Point.{Point}
-use Rattle.plane.specs.declared.Hit.{Hit}
-use Rattle.plane.specs.declared.Hit.TheVariants.{At, Nothing}
 use Rattle.plane.specs.declared.Weights.{Weights}
 
 abbrev pub point : Float → Float → Point
@@ -40,22 +38,22 @@ point_in_triangle p a b c =
 
 -- The ray from `origin` along `dir` meets the segment from a to b in the point at t, if t is not at most 1e-12 and its projection on the segment is from −1e-12 to 1 + 1e-12.
 -- The normal of the segment is (ey, −ex).
-abbrev pub on_segment : Point → Float → Point → Point → Hit
+abbrev pub on_segment : Point → Float → Point → Point → Option Point
 on_segment at len2 e a =
     let proj = dot_of (minus at a) e ⊘ len2 in
-    pick (le (neg small) proj && le proj one_and_small) (At at) Nothing
+    pick (le (neg small) proj && le proj one_and_small) (Some at) None
 
-abbrev pub along_ray : Point → Point → Float → Float → Point → Point → Hit
-along_ray origin dir t len2 e a = pick (le t small) Nothing (on_segment (point (origin.x ⊕ t ⊗ dir.x) (origin.y ⊕ t ⊗ dir.y)) len2 e a)
+abbrev pub along_ray : Point → Point → Float → Float → Point → Point → Option Point
+along_ray origin dir t len2 e a = pick (le t small) None (on_segment (point (origin.x ⊕ t ⊗ dir.x) (origin.y ⊕ t ⊗ dir.y)) len2 e a)
 
-unfoldable pub ray_line_intersection : Point → Point → Point → Point → Hit
+unfoldable pub ray_line_intersection : Point → Point → Point → Point → Option Point
 unfolding minus dot_of length_squared
 ray_line_intersection origin dir a b =
     let e = minus b a in
     let len2 = length_squared e in
     let normal = point e.y (neg e.x) in
     let ndotd = dot_of normal dir in
-    pick (lt len2 tiny) Nothing (pick (lt (abs_of ndotd) tiny) Nothing (along_ray origin dir (dot_of normal (minus a origin) ⊘ ndotd) len2 e a))
+    pick (lt len2 tiny) None (pick (lt (abs_of ndotd) tiny) None (along_ray origin dir (dot_of normal (minus a origin) ⊘ ndotd) len2 e a))
 
 -- The barycentric weights of p in the triangle va, vb, vc, unclamped; all +0 where the triangle is flat.
 abbrev pub weights : Float → Float → Float → Weights

@@ -1,22 +1,15 @@
 // Points of the plane and the predicates under the spiral, each operation in the order in which the Rust has it.
 #![tactic(auto)]
 
-ghost use Rattle.std.specs.Prelude.{◌≡◌, ◌||◌};
-ghost use Rattle.std.specs.Float.Ieee.{lt};
-ghost use Rattle.binary64.specs.Constants.{plus_zero};
+ghost use Rattle.std.specs.Prelude.{◌≡◌};
 ghost use Rattle.plane.specs.Plane as Plane;
+
+use std::ops::Sub;
 
 #[derive(Clone, Copy)]
 pub struct Point {
     pub x: f64,
     pub y: f64,
-}
-
-// Where a ray meets a segment.
-#[derive(Clone, Copy)]
-pub enum Hit {
-    At(Point),
-    Nothing,
 }
 
 // The weights of a triangle's three corners.
@@ -27,25 +20,31 @@ pub struct Weights {
     pub t: f64,
 }
 
-pub fn minus(p: Point, q: Point) -> Point
-    ensures { result ≡ Plane.minus p q }
-{
-    Point {
-        x: p.x - q.x,
-        y: p.y - q.y,
+impl Sub for Point {
+    type Output = Point;
+
+    ghost sub_gives = { λ p q r. r ≡ Plane.minus p q };
+
+    fn sub(self, q: Point) -> Point {
+        Point {
+            x: self.x - q.x,
+            y: self.y - q.y,
+        }
     }
 }
 
-pub fn dot(p: Point, q: Point) -> f64
-    ensures { result ≡ Plane.dot_of p q }
-{
-    p.x * q.x + p.y * q.y
-}
+impl Point {
+    pub fn dot(self, q: Point) -> f64
+        ensures { result ≡ Plane.dot_of self q }
+    {
+        self.x * q.x + self.y * q.y
+    }
 
-pub fn length_squared(p: Point) -> f64
-    ensures { result ≡ Plane.length_squared p }
-{
-    dot(p, p)
+    pub fn length_squared(self) -> f64
+        ensures { result ≡ Plane.length_squared self }
+    {
+        self.dot(self)
+    }
 }
 
 // Twice the signed area of p, a, b.
@@ -55,69 +54,40 @@ pub fn sign(p: Point, a: Point, b: Point) -> f64
     (p.x - b.x) * (a.y - b.y) - (a.x - b.x) * (p.y - b.y)
 }
 
-fn any_negative(a: f64, b: f64, c: f64) -> bool
-    ensures { result ≡ (lt a plus_zero || lt b plus_zero || lt c plus_zero) }
-{
-    if a < 0.0 {
-        return true;
-    }
-    if b < 0.0 {
-        return true;
-    }
-    c < 0.0
-}
-
-fn any_positive(a: f64, b: f64, c: f64) -> bool
-    ensures { result ≡ (lt plus_zero a || lt plus_zero b || lt plus_zero c) }
-{
-    if a > 0.0 {
-        return true;
-    }
-    if b > 0.0 {
-        return true;
-    }
-    c > 0.0
-}
-
 // p is not strictly on both sides of the triangle's edges.
 pub fn point_in_triangle(p: Point, a: Point, b: Point, c: Point) -> bool
     ensures { result ≡ Plane.point_in_triangle p a b c }
 {
-    let d1 = sign(p, a, b);
-    let d2 = sign(p, b, c);
-    let d3 = sign(p, c, a);
-    let has_neg = any_negative(d1, d2, d3);
-    let has_pos = any_positive(d1, d2, d3);
-    if has_neg {
-        return !has_pos;
-    }
-    true
+    let signs = [sign(p, a, b), sign(p, b, c), sign(p, c, a)];
+    let has_negative = signs.iter().any(|d| *d < 0.0);
+    let has_positive = signs.iter().any(|d| *d > 0.0);
+    !(has_negative && has_positive)
 }
 
 // The point, if its projection lies on the segment from a along e, whose squared length is len2.
-fn on_segment(at: Point, len2: f64, e: Point, a: Point) -> Hit
+fn on_segment(at: Point, len2: f64, e: Point, a: Point) -> Option<Point>
     ensures { result ≡ Plane.on_segment at len2 e a }
 {
-    let d = dot(minus(at, a), e);
+    let d = (at - a).dot(e);
     // strictly between the ends the quotient is from 0 to 1
     if (0.0 < d) & (d < len2) {
-        return Hit::At(at);
+        return Some(at);
     }
     let proj = d / len2;
     if -1e-12 <= proj {
         if proj <= 1.0 + 1e-12 {
-            return Hit::At(at);
+            return Some(at);
         }
     }
-    Hit::Nothing
+    None
 }
 
 // The point at t along the ray, if it lies ahead and on the segment.
-fn along_ray(origin: Point, dir: Point, t: f64, len2: f64, e: Point, a: Point) -> Hit
+fn along_ray(origin: Point, dir: Point, t: f64, len2: f64, e: Point, a: Point) -> Option<Point>
     ensures { result ≡ Plane.along_ray origin dir t len2 e a }
 {
     if t <= 1e-12 {
-        return Hit::Nothing;
+        return None;
     }
     let at = Point {
         x: origin.x + t * dir.x,
@@ -127,20 +97,20 @@ fn along_ray(origin: Point, dir: Point, t: f64, len2: f64, e: Point, a: Point) -
 }
 
 // Where the ray from `origin` along `dir` meets the segment from a to b.
-pub fn get_ray_line_intersection(origin: Point, dir: Point, a: Point, b: Point) -> Hit
+pub fn get_ray_line_intersection(origin: Point, dir: Point, a: Point, b: Point) -> Option<Point>
     ensures { result ≡ Plane.ray_line_intersection origin dir a b }
 {
-    let e = minus(b, a);
-    let len2 = length_squared(e);
+    let e = b - a;
+    let len2 = e.length_squared();
     if len2 < 1e-24 {
-        return Hit::Nothing;
+        return None;
     }
     let normal = Point { x: e.y, y: -e.x };
-    let ndotd = dot(normal, dir);
+    let ndotd = normal.dot(dir);
     if binary64::abs(ndotd) < 1e-24 {
-        return Hit::Nothing;
+        return None;
     }
-    let t = dot(normal, minus(a, origin)) / ndotd;
+    let t = normal.dot(a - origin) / ndotd;
     along_ray(origin, dir, t, len2, e, a)
 }
 
@@ -148,14 +118,14 @@ pub fn get_ray_line_intersection(origin: Point, dir: Point, a: Point, b: Point) 
 pub fn get_barycentric_weights(p: Point, va: Point, vb: Point, vc: Point) -> Weights
     ensures { result ≡ Plane.barycentric_weights p va vb vc }
 {
-    let v0 = minus(vc, va);
-    let v1 = minus(vb, va);
-    let v2 = minus(p, va);
-    let d00 = length_squared(v0);
-    let d01 = dot(v0, v1);
-    let d11 = length_squared(v1);
-    let d20 = dot(v2, v0);
-    let d21 = dot(v2, v1);
+    let v0 = vc - va;
+    let v1 = vb - va;
+    let v2 = p - va;
+    let d00 = v0.length_squared();
+    let d01 = v0.dot(v1);
+    let d11 = v1.length_squared();
+    let d20 = v2.dot(v0);
+    let d21 = v2.dot(v1);
     let denom = d00 * d11 - d01 * d01;
     if binary64::abs(denom) < 1e-24 {
         return Weights {

@@ -21,7 +21,7 @@ use Rattle.model.proofs.RunLaws.{last_bound}
 use Rattle.model.specs.Machine.{Space, fresh, most, needs, short, ahead, refused as machine_refused, tick, Lent, Ticked, ticks}
 use Rattle.work.specs.declared.Run.{Run}
 use Rattle.work.specs.Record.{no_run}
-use Rattle.image.specs.declared.Answer.{Answer}
+use Rattle.image.specs.Answer.{Answer}
 use Rattle.image.specs.Calls.{Buffers, fault, run_after, buffers_after}
 use Rattle.image.specs.CallLaws.{lacking}
 use Rattle.image.proofs.Instance.{facts}

@@ -56,7 +56,7 @@ points_short r l = go (leb (2 * r.stand.walk.points) (length l)) refl
     go false e = omega arith
 
 shown-fits : (r : Run) (floats path : List Float) (out : List ℕ) → Room floats path out
-    → 0 + (67 + (19 * (length (field_of r floats) + length (norms_of r floats)) + 18 * (length (gradients_of r floats) + length (points_of r path)))) ≤ length out
+    → 67 + (19 * (length (field_of r floats) + length (norms_of r floats)) + 18 * (length (gradients_of r floats) + length (points_of r path))) ≤ length out
 unfolding field_of norms_of gradients_of
 shown-fits r floats path out h =
     let u : length (field_of r floats) ≤ length floats = counted-short r.plan _ (length floats) (within-short floats _ _) in
@@ -66,7 +66,7 @@ shown-fits r floats path out h =
     omega (arith, h.fits)
 
 pub shown_room : (r : Run) (floats path : List Float) (out : List ℕ) (us rs gs ps : List Float) → us ≡ field_of r floats → rs ≡ norms_of r floats → gs ≡ gradients_of r floats → ps ≡ points_of r path
-    → Room floats path out → 0 + (67 + (19 * (length us + length rs) + 18 * (length gs + length ps))) ≤ length out
+    → Room floats path out → 67 + (19 * (length us + length rs) + 18 * (length gs + length ps)) ≤ length out
 shown_room r floats path out us rs gs ps a b c d h = rw (a, b, c, d) (shown-fits r floats path out h)
 
 -- ---- ways out

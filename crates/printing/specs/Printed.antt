@@ -1,6 +1,5 @@
 -- What the program `spiral` prints of a sheet's bytes (document 01, Length, writer, program), as bytes, and what the lent buffers hold afterwards. Definitions only. Assumes nothing.
-use Rattle.std.specs.Prelude.{ℕ, ◌+◌, ◌≡◌, List, ltb, eqb, length, take}
-use Rattle.std.proofs.Math.Option.{none}
+use Rattle.std.specs.Prelude.{ℕ, ◌+◌, ◌≡◌, List, ltb, eqb, length, take, None}
 use Rattle.binary64.specs.Number.{pick}
 use Rattle.format.specs.Sheet.{Parsed, accepted, refused, parse}
 use Rattle.pde.specs.Path.{coordinates_of}
@@ -47,7 +46,7 @@ printed sheet = pick (ltb most_bytes (length sheet)) (refused_text 8) (parsed_te
 
 -- the machine at the last place, after one advance
 abbrev pub at_last : Task → Counter
-at_last c = record { place = last_place c; mark = none; passes = last_place c }
+at_last c = record { place = last_place c; mark = None; passes = last_place c }
 
 -- as they were where the sheet or the space is refused; else those of the last place
 abbrev pub parsed_buffers : Parsed → Buffers → Buffers

@@ -7,6 +7,7 @@ ghost use Rattle.text.specs.Put.{Printed};
 ghost use Rattle.printing.specs.Printed as Text;
 ghost use Rattle.printing.specs.Steps as Steps;
 
+use refusal::Refusal;
 use work::Run;
 
 // The most bytes of a sheet, and the places of the buffers: floats, whole numbers, x and y of each point.
@@ -37,7 +38,6 @@ fn put_shown(out: &mut [u8], run: Run, floats: &[f64], path: &[f64]) -> usize
     let walk = s.walk;
     text::put_run(
         out,
-        0,
         s.place as u64,
         s.end as u64,
         walk.end as u64,
@@ -60,11 +60,10 @@ fn put_last(
     ensures { Steps.PutsLast opened (buffers floats.old words.now path.old) out.old result (buffers floats.new words.now path.new) out.new }
 {
     let answer = advancing::advance(opened, 4294967295, floats, words, path);
-    if answer.refused != 0 {
-        return text::put_refused(out, 0, answer.refused as u64);
+    match answer {
+        Ok(last) => put_shown(out, last, floats, path),
+        Err(refusal) => text::put_refused(out, refusal.number() as u64),
     }
-    let last = answer.run;
-    put_shown(out, last, floats, path)
 }
 
 // The text, from the front of the lent bytes on. Answers how many bytes it has.
@@ -78,14 +77,12 @@ pub fn print_sheet(
     ensures { Text.Prints sheet.now (buffers floats.old words.old path.old) out.old result (buffers floats.new words.new path.new) out.new }
 {
     if SHEET < sheet.len() {
-        return text::put_refused(out, 0, 8);
+        return text::put_refused(out, Refusal::Space.number() as u64);
     }
-    let opened = opening::open(sheet, floats, words, path);
-    if opened.refused != 0 {
-        return text::put_refused(out, 0, opened.refused as u64);
+    match opening::open(sheet, floats, words, path) {
+        Ok(run) => put_last(out, run, floats, words, path),
+        Err(refusal) => text::put_refused(out, refusal.number() as u64),
     }
-    let r = opened.run;
-    put_last(out, r, floats, words, path)
 }
 
 // The same of the first `got` bytes, or of all where `got` is more.

@@ -1,12 +1,12 @@
 -- The numbers of a record and the record are inverse: what is put into lists that have the places is read as it was, with flags of 0 or 1, and what is read from lists with such flags is put as it was. Assumes nothing.
-use Rattle.std.specs.Prelude.{ℕ, zero, suc, ◌≤◌, true, ◌≡◌, List, [], ◌∷◌, Float, length, leb}
+use Rattle.std.specs.Prelude.{ℕ, zero, suc, ◌≤◌, true, ◌≡◌, List, [], ◌∷◌, Float, length, leb, Option, Some, None}
 use Rattle.std.proofs.Common.{arith, leb-true, le-leb}
 use Rattle.std.proofs.Math.Path.{refl}
 use Rattle.binary64.specs.NumberLaws.{both}
-use Rattle.work.specs.declared.Given.{Given}
-use Rattle.work.specs.declared.Mark.{Mark}
 use Rattle.work.specs.declared.Run.{Run}
 use Rattle.records.specs.Numbers.{whole, fitting, fits, flagged, given_from, plan_from, walk_from, stand_from, mark_from, run_from, wholes_plan, wholes_walk, wholes_stand, wholes_run, reals_plan, reals_walk, reals_stand, reals_run, Holds}
+use Rattle.plane.specs.declared.Point.{Point}
+use Rattle.work.specs.declared.Kept.{Kept}
 
 -- what holds of every list that begins with seventeen elements holds of every list that is as long
 seventeen : (P : List ℕ → Type 0) → ((n0 n1 n2 n3 n4 n5 n6 n7 n8 n9 n10 n11 n12 n13 n14 n15 n16 : ℕ) (rest : List ℕ) → P (n0 ∷ n1 ∷ n2 ∷ n3 ∷ n4 ∷ n5 ∷ n6 ∷ n7 ∷ n8 ∷ n9 ∷ n10 ∷ n11 ∷ n12 ∷ n13 ∷ n14 ∷ n15 ∷ n16 ∷ rest)) → (l : List ℕ) → 17 ≤ length l → P l
@@ -45,15 +45,15 @@ long : (k l : ℕ) → 17 ≤ k → 8 ≤ l → fitting k l ≡ true
 long k l h g = rw (le-leb 17 k h, le-leb 8 l g)
 
 -- a record by its start and its mark
-abbrev with : Run → Given → Mark → Run
+abbrev with : Run → Option Point → Option Kept → Run
 with r g m = record { plan = record { n = r.plan.n; t = r.plan.t; limit = r.plan.limit; room = r.plan.room; tolerance = r.plan.tolerance; step = r.plan.step; start = g }; stand = r.stand; mark = m; passes = r.passes }
 
-front : (r : Run) (g : Given) (m : Mark) (n0 n1 n2 n3 n4 n5 n6 n7 n8 n9 n10 n11 n12 n13 n14 n15 n16 : ℕ) (ns : List ℕ) (x0 x1 x2 x3 x4 x5 x6 x7 : Float) (xs : List Float) → Holds (with r g m) (wholes_run (with r g m) (n0 ∷ n1 ∷ n2 ∷ n3 ∷ n4 ∷ n5 ∷ n6 ∷ n7 ∷ n8 ∷ n9 ∷ n10 ∷ n11 ∷ n12 ∷ n13 ∷ n14 ∷ n15 ∷ n16 ∷ ns)) (reals_run (with r g m) (x0 ∷ x1 ∷ x2 ∷ x3 ∷ x4 ∷ x5 ∷ x6 ∷ x7 ∷ xs))
+front : (r : Run) (g : Option Point) (m : Option Kept) (n0 n1 n2 n3 n4 n5 n6 n7 n8 n9 n10 n11 n12 n13 n14 n15 n16 : ℕ) (ns : List ℕ) (x0 x1 x2 x3 x4 x5 x6 x7 : Float) (xs : List Float) → Holds (with r g m) (wholes_run (with r g m) (n0 ∷ n1 ∷ n2 ∷ n3 ∷ n4 ∷ n5 ∷ n6 ∷ n7 ∷ n8 ∷ n9 ∷ n10 ∷ n11 ∷ n12 ∷ n13 ∷ n14 ∷ n15 ∷ n16 ∷ ns)) (reals_run (with r g m) (x0 ∷ x1 ∷ x2 ∷ x3 ∷ x4 ∷ x5 ∷ x6 ∷ x7 ∷ xs))
 unfolding fits flagged given_from plan_from walk_from stand_from mark_from run_from wholes_plan wholes_walk wholes_stand wholes_run reals_plan reals_walk reals_stand reals_run
-front r Given.Nothing Mark.Nothing n0 n1 n2 n3 n4 n5 n6 n7 n8 n9 n10 n11 n12 n13 n14 n15 n16 ns x0 x1 x2 x3 x4 x5 x6 x7 xs = record { reads = refl; flags = refl; fit = long (length (n0 ∷ n1 ∷ n2 ∷ n3 ∷ n4 ∷ n5 ∷ n6 ∷ n7 ∷ n8 ∷ n9 ∷ n10 ∷ n11 ∷ n12 ∷ n13 ∷ n14 ∷ n15 ∷ n16 ∷ ns)) (length (x0 ∷ x1 ∷ x2 ∷ x3 ∷ x4 ∷ x5 ∷ x6 ∷ x7 ∷ xs)) (omega arith) (omega arith) }
-front r Given.Nothing (Mark.At k) n0 n1 n2 n3 n4 n5 n6 n7 n8 n9 n10 n11 n12 n13 n14 n15 n16 ns x0 x1 x2 x3 x4 x5 x6 x7 xs = record { reads = refl; flags = refl; fit = long (length (n0 ∷ n1 ∷ n2 ∷ n3 ∷ n4 ∷ n5 ∷ n6 ∷ n7 ∷ n8 ∷ n9 ∷ n10 ∷ n11 ∷ n12 ∷ n13 ∷ n14 ∷ n15 ∷ n16 ∷ ns)) (length (x0 ∷ x1 ∷ x2 ∷ x3 ∷ x4 ∷ x5 ∷ x6 ∷ x7 ∷ xs)) (omega arith) (omega arith) }
-front r (Given.At s) Mark.Nothing n0 n1 n2 n3 n4 n5 n6 n7 n8 n9 n10 n11 n12 n13 n14 n15 n16 ns x0 x1 x2 x3 x4 x5 x6 x7 xs = record { reads = refl; flags = refl; fit = long (length (n0 ∷ n1 ∷ n2 ∷ n3 ∷ n4 ∷ n5 ∷ n6 ∷ n7 ∷ n8 ∷ n9 ∷ n10 ∷ n11 ∷ n12 ∷ n13 ∷ n14 ∷ n15 ∷ n16 ∷ ns)) (length (x0 ∷ x1 ∷ x2 ∷ x3 ∷ x4 ∷ x5 ∷ x6 ∷ x7 ∷ xs)) (omega arith) (omega arith) }
-front r (Given.At s) (Mark.At k) n0 n1 n2 n3 n4 n5 n6 n7 n8 n9 n10 n11 n12 n13 n14 n15 n16 ns x0 x1 x2 x3 x4 x5 x6 x7 xs = record { reads = refl; flags = refl; fit = long (length (n0 ∷ n1 ∷ n2 ∷ n3 ∷ n4 ∷ n5 ∷ n6 ∷ n7 ∷ n8 ∷ n9 ∷ n10 ∷ n11 ∷ n12 ∷ n13 ∷ n14 ∷ n15 ∷ n16 ∷ ns)) (length (x0 ∷ x1 ∷ x2 ∷ x3 ∷ x4 ∷ x5 ∷ x6 ∷ x7 ∷ xs)) (omega arith) (omega arith) }
+front r None None n0 n1 n2 n3 n4 n5 n6 n7 n8 n9 n10 n11 n12 n13 n14 n15 n16 ns x0 x1 x2 x3 x4 x5 x6 x7 xs = record { reads = refl; flags = refl; fit = long (length (n0 ∷ n1 ∷ n2 ∷ n3 ∷ n4 ∷ n5 ∷ n6 ∷ n7 ∷ n8 ∷ n9 ∷ n10 ∷ n11 ∷ n12 ∷ n13 ∷ n14 ∷ n15 ∷ n16 ∷ ns)) (length (x0 ∷ x1 ∷ x2 ∷ x3 ∷ x4 ∷ x5 ∷ x6 ∷ x7 ∷ xs)) (omega arith) (omega arith) }
+front r None (Some k) n0 n1 n2 n3 n4 n5 n6 n7 n8 n9 n10 n11 n12 n13 n14 n15 n16 ns x0 x1 x2 x3 x4 x5 x6 x7 xs = record { reads = refl; flags = refl; fit = long (length (n0 ∷ n1 ∷ n2 ∷ n3 ∷ n4 ∷ n5 ∷ n6 ∷ n7 ∷ n8 ∷ n9 ∷ n10 ∷ n11 ∷ n12 ∷ n13 ∷ n14 ∷ n15 ∷ n16 ∷ ns)) (length (x0 ∷ x1 ∷ x2 ∷ x3 ∷ x4 ∷ x5 ∷ x6 ∷ x7 ∷ xs)) (omega arith) (omega arith) }
+front r (Some s) None n0 n1 n2 n3 n4 n5 n6 n7 n8 n9 n10 n11 n12 n13 n14 n15 n16 ns x0 x1 x2 x3 x4 x5 x6 x7 xs = record { reads = refl; flags = refl; fit = long (length (n0 ∷ n1 ∷ n2 ∷ n3 ∷ n4 ∷ n5 ∷ n6 ∷ n7 ∷ n8 ∷ n9 ∷ n10 ∷ n11 ∷ n12 ∷ n13 ∷ n14 ∷ n15 ∷ n16 ∷ ns)) (length (x0 ∷ x1 ∷ x2 ∷ x3 ∷ x4 ∷ x5 ∷ x6 ∷ x7 ∷ xs)) (omega arith) (omega arith) }
+front r (Some s) (Some k) n0 n1 n2 n3 n4 n5 n6 n7 n8 n9 n10 n11 n12 n13 n14 n15 n16 ns x0 x1 x2 x3 x4 x5 x6 x7 xs = record { reads = refl; flags = refl; fit = long (length (n0 ∷ n1 ∷ n2 ∷ n3 ∷ n4 ∷ n5 ∷ n6 ∷ n7 ∷ n8 ∷ n9 ∷ n10 ∷ n11 ∷ n12 ∷ n13 ∷ n14 ∷ n15 ∷ n16 ∷ ns)) (length (x0 ∷ x1 ∷ x2 ∷ x3 ∷ x4 ∷ x5 ∷ x6 ∷ x7 ∷ xs)) (omega arith) (omega arith) }
 
 -- what is put is held
 pub put_holds : (r : Run) (ns : List ℕ) (xs : List Float) → fits ns xs ≡ true → Holds r (wholes_run r ns) (reals_run r xs)

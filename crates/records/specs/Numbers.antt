@@ -1,15 +1,15 @@
 -- The record of a run as two lists of numbers, which C's callers hold: 17 whole numbers and 8 reals. Definitions only. Assumes nothing.
 -- Whole numbers: 0 n, 1 T, 2 limit, 3 room, 4 whether a start is given, 5 place, 6 norms, 7 field end, 8 triangle, 9 edge, 10 points, 11 path end, 12 crossings, 13 whether there is a mark, 14 its place, 15 its norms, 16 passes.
 -- Reals: 0 tolerance, 1 step, 2 and 3 the start, 4 r·r, 5 and 6 the position, 7 the mark's r·r.
-use Rattle.std.specs.Prelude.{ℕ, zero, suc, Bool, ◌&&◌, List, get_or, set, length, Float, leb, ◌≡◌, true}
+use Rattle.std.specs.Prelude.{ℕ, zero, suc, Bool, ◌&&◌, List, get_or, set, length, Float, leb, ◌≡◌, true, Option, Some, None}
 use Rattle.binary64.specs.Constants.{plus_zero}
 use Rattle.plane.specs.Plane.{point}
 use Rattle.pde.specs.declared.Walk.{Walk}
-use Rattle.work.specs.declared.Given.{Given}
 use Rattle.work.specs.declared.Plan.{Plan}
 use Rattle.work.specs.declared.Stand.{Stand}
-use Rattle.work.specs.declared.Mark.{Mark}
 use Rattle.work.specs.declared.Run.{Run}
+use Rattle.plane.specs.declared.Point.{Point}
+use Rattle.work.specs.declared.Kept.{Kept}
 
 -- ---- lists that hold a record
 
@@ -32,11 +32,11 @@ whole ns i = get_or ns i 0
 abbrev pub real : List Float → ℕ → Float
 real xs i = get_or xs i plus_zero
 
-abbrev given_by : ℕ → List Float → Given
-given_by zero xs = Given.Nothing
-given_by (suc k) xs = Given.At (point (real xs 2) (real xs 3))
+abbrev given_by : ℕ → List Float → Option Point
+given_by zero xs = None
+given_by (suc k) xs = Some (point (real xs 2) (real xs 3))
 
-unfoldable pub given_from : List ℕ → List Float → Given
+unfoldable pub given_from : List ℕ → List Float → Option Point
 given_from ns xs = given_by (whole ns 4) xs
 
 unfoldable pub plan_from : List ℕ → List Float → Plan
@@ -48,11 +48,11 @@ walk_from ns xs = record { position = point (real xs 5) (real xs 6); triangle = 
 unfoldable pub stand_from : List ℕ → List Float → Stand
 stand_from ns xs = record { place = whole ns 5; rs = real xs 4; norms = whole ns 6; end = whole ns 7; walk = walk_from ns xs; crossings = whole ns 12 }
 
-abbrev mark_by : ℕ → List ℕ → List Float → Mark
-mark_by zero ns xs = Mark.Nothing
-mark_by (suc k) ns xs = Mark.At (record { place = whole ns 14; rs = real xs 7; norms = whole ns 15 })
+abbrev mark_by : ℕ → List ℕ → List Float → Option Kept
+mark_by zero ns xs = None
+mark_by (suc k) ns xs = Some (record { place = whole ns 14; rs = real xs 7; norms = whole ns 15 })
 
-unfoldable pub mark_from : List ℕ → List Float → Mark
+unfoldable pub mark_from : List ℕ → List Float → Option Kept
 mark_from ns xs = mark_by (whole ns 13) ns xs
 
 unfoldable pub run_from : List ℕ → List Float → Run
@@ -60,13 +60,13 @@ run_from ns xs = record { plan = plan_from ns xs; stand = stand_from ns xs; mark
 
 -- ---- the numbers of a record, put at their places; what has no place is left out
 
-abbrev pub wholes_given : Given → List ℕ → List ℕ
-wholes_given Given.Nothing ns = set ns 4 0
-wholes_given (Given.At p) ns = set ns 4 1
+abbrev pub wholes_given : Option Point → List ℕ → List ℕ
+wholes_given None ns = set ns 4 0
+wholes_given (Some p) ns = set ns 4 1
 
-abbrev pub reals_given : Given → List Float → List Float
-reals_given Given.Nothing xs = xs
-reals_given (Given.At p) xs = set (set xs 2 p.x) 3 p.y
+abbrev pub reals_given : Option Point → List Float → List Float
+reals_given None xs = xs
+reals_given (Some p) xs = set (set xs 2 p.x) 3 p.y
 
 unfoldable pub wholes_plan : Plan → List ℕ → List ℕ
 wholes_plan plan ns = wholes_given plan.start (set (set (set (set ns 0 plan.n) 1 plan.t) 2 plan.limit) 3 plan.room)
@@ -86,13 +86,13 @@ wholes_stand s ns = set (wholes_walk s.walk (set (set (set ns 5 s.place) 6 s.nor
 unfoldable pub reals_stand : Stand → List Float → List Float
 reals_stand s xs = reals_walk s.walk (set xs 4 s.rs)
 
-abbrev pub wholes_mark : Mark → List ℕ → List ℕ
-wholes_mark Mark.Nothing ns = set ns 13 0
-wholes_mark (Mark.At k) ns = set (set (set ns 13 1) 14 k.place) 15 k.norms
+abbrev pub wholes_mark : Option Kept → List ℕ → List ℕ
+wholes_mark None ns = set ns 13 0
+wholes_mark (Some k) ns = set (set (set ns 13 1) 14 k.place) 15 k.norms
 
-abbrev pub reals_mark : Mark → List Float → List Float
-reals_mark Mark.Nothing xs = xs
-reals_mark (Mark.At k) xs = set xs 7 k.rs
+abbrev pub reals_mark : Option Kept → List Float → List Float
+reals_mark None xs = xs
+reals_mark (Some k) xs = set xs 7 k.rs
 
 unfoldable pub wholes_run : Run → List ℕ → List ℕ
 wholes_run r ns = set (wholes_mark r.mark (wholes_stand r.stand (wholes_plan r.plan ns))) 16 r.passes

@@ -2,10 +2,83 @@
 ghost use Rattle.std.specs.Prelude.{◌≡◌, length};
 ghost use Rattle.records.specs.Numbers as Numbers;
 
-use crate::lists::{real, whole};
+use crate::lists::{Lists, get_or};
 use pde::Walk;
 use plane::Point;
-use work::{Given, Kept, Mark, Plan, Run, Stand};
+use work::{Kept, Plan, Run, Stand};
+
+// The parts of a record; specs/Numbers.antt says which number each place holds.
+impl Lists<'_> {
+    #[tactic(auto, unfolding(crate::specs::Numbers::given_from))]
+    fn given(&self) -> Option<Point>
+        ensures { result ≡ Numbers.given_from self.now.wholes.now self.now.reals.now }
+    {
+        if self.whole(4) == 0 {
+            return None;
+        }
+        let x = self.real(2);
+        let y = self.real(3);
+        Some(Point { x, y })
+    }
+
+    #[tactic(auto, unfolding(crate::specs::Numbers::plan_from))]
+    fn plan(&self) -> Plan
+        ensures { result ≡ Numbers.plan_from self.now.wholes.now self.now.reals.now }
+    {
+        Plan {
+            n: self.whole(0) as usize,
+            t: self.whole(1) as usize,
+            limit: self.whole(2) as usize,
+            room: self.whole(3) as usize,
+            tolerance: self.real(0),
+            step: self.real(1),
+            start: self.given(),
+        }
+    }
+
+    #[tactic(auto, unfolding(crate::specs::Numbers::walk_from))]
+    fn walk(&self) -> Walk
+        ensures { result ≡ Numbers.walk_from self.now.wholes.now self.now.reals.now }
+    {
+        let x = self.real(5);
+        let y = self.real(6);
+        Walk {
+            position: Point { x, y },
+            triangle: self.whole(8) as usize,
+            edge: self.whole(9) as usize,
+            points: self.whole(10) as usize,
+            end: self.whole(11) as usize,
+        }
+    }
+
+    #[tactic(auto, unfolding(crate::specs::Numbers::stand_from))]
+    fn stand(&self) -> Stand
+        ensures { result ≡ Numbers.stand_from self.now.wholes.now self.now.reals.now }
+    {
+        Stand {
+            place: self.whole(5) as usize,
+            rs: self.real(4),
+            norms: self.whole(6) as usize,
+            end: self.whole(7) as usize,
+            walk: self.walk(),
+            crossings: self.whole(12) as usize,
+        }
+    }
+
+    #[tactic(auto, unfolding(crate::specs::Numbers::mark_from))]
+    fn mark(&self) -> Option<Kept>
+        ensures { result ≡ Numbers.mark_from self.now.wholes.now self.now.reals.now }
+    {
+        if self.whole(13) == 0 {
+            return None;
+        }
+        Some(Kept {
+            place: self.whole(14) as usize,
+            rs: self.real(7),
+            norms: self.whole(15) as usize,
+        })
+    }
+}
 
 // Whether lists of these lengths hold a record.
 pub fn fits(wholes: usize, reals: usize) -> bool
@@ -15,92 +88,24 @@ pub fn fits(wholes: usize, reals: usize) -> bool
 }
 
 // Whether both flags are 0 or 1.
+#[tactic(auto, unfolding(crate::specs::Numbers::flagged))]
 pub fn flagged(wholes: &[u64]) -> bool
     ensures { result ≡ Numbers.flagged wholes.now }
 {
-    let start = whole(wholes, 4);
-    let mark = whole(wholes, 13);
+    let start = get_or(wholes, 4, 0);
+    let mark = get_or(wholes, 13, 0);
     (start <= 1) & (mark <= 1)
 }
 
-fn given_from(wholes: &[u64], reals: &[f64]) -> Given
-    ensures { result ≡ Numbers.given_from wholes.now reals.now }
-{
-    if whole(wholes, 4) == 0 {
-        return Given::Nothing;
-    }
-    let x = real(reals, 2);
-    let y = real(reals, 3);
-    Given::At(Point { x, y })
-}
-
-fn plan_from(wholes: &[u64], reals: &[f64]) -> Plan
-    ensures { result ≡ Numbers.plan_from wholes.now reals.now }
-{
-    let start = given_from(wholes, reals);
-    Plan {
-        n: whole(wholes, 0) as usize,
-        t: whole(wholes, 1) as usize,
-        limit: whole(wholes, 2) as usize,
-        room: whole(wholes, 3) as usize,
-        tolerance: real(reals, 0),
-        step: real(reals, 1),
-        start,
-    }
-}
-
-fn walk_from(wholes: &[u64], reals: &[f64]) -> Walk
-    ensures { result ≡ Numbers.walk_from wholes.now reals.now }
-{
-    let x = real(reals, 5);
-    let y = real(reals, 6);
-    Walk {
-        position: Point { x, y },
-        triangle: whole(wholes, 8) as usize,
-        edge: whole(wholes, 9) as usize,
-        points: whole(wholes, 10) as usize,
-        end: whole(wholes, 11) as usize,
-    }
-}
-
-fn stand_from(wholes: &[u64], reals: &[f64]) -> Stand
-    ensures { result ≡ Numbers.stand_from wholes.now reals.now }
-{
-    let walk = walk_from(wholes, reals);
-    Stand {
-        place: whole(wholes, 5) as usize,
-        rs: real(reals, 4),
-        norms: whole(wholes, 6) as usize,
-        end: whole(wholes, 7) as usize,
-        walk,
-        crossings: whole(wholes, 12) as usize,
-    }
-}
-
-fn mark_from(wholes: &[u64], reals: &[f64]) -> Mark
-    ensures { result ≡ Numbers.mark_from wholes.now reals.now }
-{
-    if whole(wholes, 13) == 0 {
-        return Mark::Nothing;
-    }
-    let kept = Kept {
-        place: whole(wholes, 14) as usize,
-        rs: real(reals, 7),
-        norms: whole(wholes, 15) as usize,
-    };
-    Mark::At(kept)
-}
-
+#[tactic(auto, unfolding(crate::specs::Numbers::run_from))]
 pub fn run_from(wholes: &[u64], reals: &[f64]) -> Run
     ensures { result ≡ Numbers.run_from wholes.now reals.now }
 {
-    let plan = plan_from(wholes, reals);
-    let stand = stand_from(wholes, reals);
-    let mark = mark_from(wholes, reals);
+    let lists = Lists { wholes, reals };
     Run {
-        plan,
-        stand,
-        mark,
-        passes: whole(wholes, 16),
+        plan: lists.plan(),
+        stand: lists.stand(),
+        mark: lists.mark(),
+        passes: lists.whole(16),
     }
 }

@@ -1,26 +1,19 @@
-// Lists of numbers: what has no place reads as 0 and is left out when it is put.
+// Lists of numbers: what has no place reads as a given one and is left out when it is put.
 ghost use Rattle.std.specs.Prelude.{◌≡◌, get_or, set};
 ghost use Rattle.binary64.specs.Constants.{plus_zero};
 
-pub fn whole(list: &[u64], at: usize) -> u64
-    ensures { result ≡ get_or list.now at 0 }
+#[inline]
+pub fn get_or<T: Copy>(list: &[T], at: usize, absent: T) -> T
+    ensures { result ≡ get_or list.now at absent }
 {
-    if at < list.len() {
-        return list[at];
+    match list.get(at) {
+        Some(x) => *x,
+        None => absent,
     }
-    0
 }
 
-pub fn real(list: &[f64], at: usize) -> f64
-    ensures { result ≡ get_or list.now at plus_zero }
-{
-    if at < list.len() {
-        return list[at];
-    }
-    0.0
-}
-
-pub fn put(out: &mut [u64], at: usize, v: u64)
+#[inline]
+pub fn put<T: Copy>(out: &mut [T], at: usize, v: T)
     ensures { out.new ≡ set out.old at v }
 {
     if at < out.len() {
@@ -28,18 +21,25 @@ pub fn put(out: &mut [u64], at: usize, v: u64)
     }
 }
 
-pub fn put_float(out: &mut [f64], at: usize, x: f64)
-    ensures { out.new ≡ set out.old at x }
-{
-    if at < out.len() {
-        out[at] = x;
-    }
+// The two lists that a record or settings are read from, where what has no place is 0.
+#[derive(Clone, Copy)]
+pub struct Lists<'a> {
+    pub wholes: &'a [u64],
+    pub reals: &'a [f64],
 }
 
-pub fn put_word(out: &mut [u32], at: usize, v: u32)
-    ensures { out.new ≡ set out.old at v }
-{
-    if at < out.len() {
-        out[at] = v;
+impl Lists<'_> {
+    #[inline]
+    pub fn whole(&self, at: usize) -> u64
+        ensures { result ≡ get_or self.now.wholes.now at 0 }
+    {
+        get_or(self.wholes, at, 0)
+    }
+
+    #[inline]
+    pub fn real(&self, at: usize) -> f64
+        ensures { result ≡ get_or self.now.reals.now at plus_zero }
+    {
+        get_or(self.reals, at, 0.0)
     }
 }

@@ -1,16 +1,16 @@
 // The limits of the printing program: sheets that use their bytes or places to the last, and sheets of one more. Prints the first line of each text, and how many bytes the text has.
 #![tactic(auto)]
 
-use format::{Real, Settings, Whole};
-use sheet::Written;
+use format::{Content, Settings};
+use refusal::Refusal;
 use std::io;
 
 // The text's first bytes, and how many it has.
 fn print_front(rt: &impl Print, text: &[u8], line: usize) -> io::Result<()> {
-    if text.len() < line {
+    let Some(front) = text.get(..line) else {
         return Ok(());
-    }
-    rt.write_all(&text[..line])?;
+    };
+    rt.write_all(front)?;
     println!(rt; " {}", text.len())
 }
 
@@ -36,10 +36,10 @@ fn print_of(rt: &impl Print, sheet: &[u8]) -> io::Result<()> {
 }
 
 fn print_first(rt: &impl Print, sheet: &[u8], count: usize) -> io::Result<()> {
-    if sheet.len() < count {
-        return Ok(());
+    match sheet.get(..count) {
+        Some(front) => print_of(rt, front),
+        None => Ok(()),
     }
-    print_of(rt, &sheet[..count])
 }
 
 // So many bytes, all the same.
@@ -50,73 +50,43 @@ fn print_same(rt: &impl Print, byte: u8, count: usize) -> io::Result<()> {
 
 // A step of 1, a start at (0, 0).
 fn settings(limit: u64, room: u64) -> Settings {
-    let given = Whole::Given(limit);
-    let points = Whole::Given(room);
     Settings {
-        limit: given,
-        tolerance: Real::Absent,
-        step: Real::Given(1.0),
-        x: Real::Given(0.0),
-        y: Real::Given(0.0),
-        room: points,
+        limit: Some(limit),
+        tolerance: None,
+        step: Some(1.0),
+        x: Some(0.0),
+        y: Some(0.0),
+        room: Some(room),
     }
 }
 
-// The sheet of the first n vertices and tags and the first t triangles.
-fn write(
-    n: usize,
-    t: usize,
-    set: Settings,
-    vertices: &[f64],
-    corners: &[u32],
-    neighbours: &[u32],
-    tags: &[u8],
-    out: &mut [u8],
-) -> Written {
-    if vertices.len() / 2 < n {
-        return Written::Refused(8);
-    }
-    if tags.len() < n {
-        return Written::Refused(8);
-    }
-    if corners.len() / 3 < t {
-        return Written::Refused(8);
-    }
-    if neighbours.len() / 3 < t {
-        return Written::Refused(8);
-    }
-    sheet::write_sheet(
-        &vertices[..2 * n],
-        &corners[..3 * t],
-        &neighbours[..3 * t],
-        &tags[..n],
-        set,
-        out,
-    )
+// The sheet of the first n vertices and tags and the first t triangles; none where they are not all there.
+fn write(n: usize, t: usize, all: &Content, out: &mut [u8]) -> Option<Result<usize, Refusal>> {
+    let content = Content {
+        vertices: all.vertices.get(..n.checked_mul(2)?)?,
+        triangles: all.triangles.get(..t.checked_mul(3)?)?,
+        neighbours: all.neighbours.get(..t.checked_mul(3)?)?,
+        tags: all.tags.get(..n)?,
+        settings: all.settings,
+    };
+    Some(sheet::write_sheet(&content, out))
 }
 
 // A sheet of n vertices, all at (0, 0) and free, and of t triangles, all of the first vertex.
 fn print_counts(rt: &impl Print, n: usize, t: usize, limit: u64, room: u64) -> io::Result<()> {
-    let vertices = [0.0; 1362];
-    let corners = [0u32; 1533];
-    let neighbours = [4294967295u32; 1533];
-    let tags = [0u8; 681];
+    let all = Content {
+        vertices: &[0.0; 1362],
+        triangles: &[0u32; 1533],
+        neighbours: &[format::NO_NEIGHBOUR; 1533],
+        tags: &[0u8; 681],
+        settings: settings(limit, room),
+    };
     let mut sheet = [0u8; 32768];
-    let set = settings(limit, room);
-    let written = write(
-        n,
-        t,
-        set,
-        &vertices,
-        &corners,
-        &neighbours,
-        &tags,
-        &mut sheet,
-    );
-    match written {
-        Written::Bytes(k) => print_first(rt, &sheet, k),
-        Written::Refused(k) => print_first(rt, &sheet, 0),
-    }
+    let size = match write(n, t, &all, &mut sheet) {
+        Some(Ok(size)) => size,
+        Some(Err(_)) | None => 0,
+    };
+    print_first(rt, &sheet, size)
 }
 
 fn main(rt: HostRuntime) -> io::Result<()> {

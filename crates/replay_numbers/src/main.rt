@@ -5,81 +5,115 @@
 mod rows;
 mod tables;
 
-use rows::Function;
+use rows::{is, number, point, rows_of};
 use std::io;
 
-// Writes a function's line, and answers whether all of its rows agree and all those before did.
-fn replay(
+// Writes a function's line, and answers whether all rows agree.
+fn replay<R, F: Fn(&R) -> bool>(
     rt: &impl Print,
-    before: bool,
-    function: Function,
     name: &str,
-    table: &[u64],
-) -> io::Result<bool> {
-    let width = rows::width(function);
-    let all = table.len() / width;
-    let agree = rows::agreeing(function, width, table);
+    rows: &[R],
+    agrees: F,
+) -> io::Result<bool>
+    requires { F.IsAlwaysCallable agrees }
+{
+    let all = rows.len();
+    let agree = rows::agreeing(rows, agrees);
     println!(rt; "{name} {agree} of {all}")?;
-    Ok(before && agree == all)
+    Ok(agree == all)
 }
 
 fn replay_numbers(rt: &impl Print) -> io::Result<bool> {
-    let mut all = replay(rt, true, Function::Sqrt, "sqrt", &tables::SQRT)?;
-    all = replay(rt, all, Function::Abs, "abs", &tables::ABS)?;
-    all = replay(rt, all, Function::Clamp, "clamp", &tables::CLAMP)?;
-    all = replay(rt, all, Function::AtLeast, "at_least", &tables::AT_LEAST)?;
-    replay(
+    let mut all = replay(
         rt,
-        all,
-        Function::CeilCount,
+        "sqrt",
+        rows_of::<2>(&tables::SQRT),
+        |&[x, y]: &[u64; 2]| { is(root::sqrt(number(x)), y) },
+    )?;
+    all &= replay(
+        rt,
+        "abs",
+        rows_of::<2>(&tables::ABS),
+        |&[x, y]: &[u64; 2]| { is(binary64::abs(number(x)), y) },
+    )?;
+    all &= replay(
+        rt,
+        "clamp",
+        rows_of::<2>(&tables::CLAMP),
+        |&[x, y]: &[u64; 2]| { is(binary64::clamp(number(x)), y) },
+    )?;
+    all &= replay(
+        rt,
+        "at_least",
+        rows_of::<2>(&tables::AT_LEAST),
+        |&[x, y]: &[u64; 2]| { is(binary64::at_least(1e-24, number(x)), y) },
+    )?;
+    all &= replay(
+        rt,
         "ceil_count",
-        &tables::CEIL_COUNT,
-    )
+        rows_of::<2>(&tables::CEIL_COUNT),
+        |&[x, y]: &[u64; 2]| { binary64::ceil_count(number(x)) as u64 == y },
+    )?;
+    Ok(all)
 }
 
-fn replay_plane(rt: &impl Print, before: bool) -> io::Result<bool> {
-    let mut all = replay(rt, before, Function::Dot, "dot", &tables::DOT)?;
-    all = replay(
+fn replay_plane(rt: &impl Print) -> io::Result<bool> {
+    let mut all = replay(
         rt,
-        all,
-        Function::LengthSquared,
+        "dot",
+        rows_of::<5>(&tables::DOT),
+        |&[px, py, qx, qy, y]: &[u64; 5]| { is(point(px, py).dot(point(qx, qy)), y) },
+    )?;
+    all &= replay(
+        rt,
         "length_squared",
-        &tables::LENGTH_SQUARED,
+        rows_of::<3>(&tables::LENGTH_SQUARED),
+        |&[px, py, y]: &[u64; 3]| { is(point(px, py).length_squared(), y) },
     )?;
-    all = replay(rt, all, Function::Sign, "sign", &tables::SIGN)?;
-    all = replay(
+    all &= replay(
         rt,
-        all,
-        Function::PointInTriangle,
+        "sign",
+        rows_of::<7>(&tables::SIGN),
+        |&[px, py, ax, ay, bx, by, y]: &[u64; 7]| {
+            is(plane::sign(point(px, py), point(ax, ay), point(bx, by)), y)
+        },
+    )?;
+    all &= replay(
+        rt,
         "point_in_triangle",
-        &tables::POINT_IN_TRIANGLE,
+        rows_of::<9>(&tables::POINT_IN_TRIANGLE),
+        rows::point_in_triangle_agrees,
     )?;
-    all = replay(
+    Ok(all)
+}
+
+fn replay_rays_and_weights(rt: &impl Print) -> io::Result<bool> {
+    let mut all = replay(
         rt,
-        all,
-        Function::Ray,
         "get_ray_line_intersection",
-        &tables::GET_RAY_LINE_INTERSECTION,
+        rows_of::<11>(&tables::GET_RAY_LINE_INTERSECTION),
+        rows::ray_agrees,
     )?;
-    all = replay(
+    all &= replay(
         rt,
-        all,
-        Function::Weights,
         "get_barycentric_weights",
-        &tables::GET_BARYCENTRIC_WEIGHTS,
+        rows_of::<11>(&tables::GET_BARYCENTRIC_WEIGHTS),
+        rows::weights_agree,
     )?;
-    replay(
+    all &= replay(
         rt,
-        all,
-        Function::Interpolate,
         "barycentric_interpolate",
-        &tables::BARYCENTRIC_INTERPOLATE,
-    )
+        rows_of::<12>(&tables::BARYCENTRIC_INTERPOLATE),
+        rows::interpolate_agrees,
+    )?;
+    Ok(all)
 }
 
 fn main(rt: HostRuntime) -> io::Result<()> {
     let numbers = replay_numbers(&rt)?;
-    if replay_plane(&rt, numbers)? {
+    let plane = replay_plane(&rt)?;
+    let rays_and_weights = replay_rays_and_weights(&rt)?;
+    if numbers && plane && rays_and_weights {
         println!(rt; "all agree")
     } else {
         println!(rt; "some differ")

@@ -12,8 +12,8 @@ use std::io;
 
 // The numbers of the calls; 0 beyond them.
 fn read_calls(bytes: &[u8], calls: &mut [u32]) {
-    for i in 0..calls.len() {
-        calls[i] = sheet::items::corner(bytes, i);
+    for (i, number) in calls.iter_mut().enumerate() {
+        *number = sheet::items::corner(bytes, i);
     }
 }
 
@@ -23,12 +23,10 @@ fn replay(rt: &impl Print, sheet: &[u8], calls: &[u32], count: usize) -> io::Res
     let mut floats = [0.0; 4096];
     let mut words = [0u32; 4096];
     let mut path = [0.0; 1024];
-    let opened = run::replay(sheet, calls, &mut said, &mut floats, &mut words, &mut path);
-    if opened.refused != 0 {
-        return lines::refused(rt, opened.refused);
+    match run::replay(sheet, calls, &mut said, &mut floats, &mut words, &mut path) {
+        Ok(run) => lines::opened(rt, run, &said, count, &floats, &path),
+        Err(refusal) => lines::refused(rt, refusal),
     }
-    let r = opened.run;
-    lines::opened(rt, r, &said, count, &floats, &path)
 }
 
 // At most 40 calls.
@@ -36,11 +34,10 @@ fn replay_calls(rt: &impl Print, sheet: &[u8], calls: &[u32], count: usize) -> i
     if 40 < count {
         return Ok(());
     }
-    let numbers = 6 * count;
-    if calls.len() < numbers {
+    let Some(numbers) = calls.get(..6 * count) else {
         return Ok(());
-    }
-    replay(rt, sheet, &calls[..numbers], count)
+    };
+    replay(rt, sheet, numbers, count)
 }
 
 fn replay_one(rt: &impl Print, sheet: &[u8], bytes: &[u8], count: usize) -> io::Result<()> {

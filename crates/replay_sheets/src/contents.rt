@@ -1,286 +1,182 @@
 // Whether the writer answers as a list's rows say. A row is the answer, 0 where the content is written, two numbers that the base is spoiled by, and the space.
-ghost use Rattle.std.specs.Prelude.{◌≤◌};
-
 use crate::sheets::{Counts, SPACE};
-use format::{Settings, Whole};
-use sheet::{Checked, Header, Written};
+use crate::tables::BASE;
+use format::{Content, Settings};
+use refusal::Refusal;
+use sheet::{Header, items};
 
 // The numbers that a content is spoiled by, 0 for none.
 #[derive(Clone, Copy)]
-struct Spoiling {
-    first: u32,
-    second: u32,
-}
+struct Spoiling([u32; 2]);
 
-// ---- the content of a sheet, as far as there are places for it
-
-fn put_float(out: &mut [f64], at: usize, x: f64) {
-    if at < out.len() {
-        out[at] = x;
+impl Spoiling {
+    fn has(&self, number: u32) -> bool {
+        self.0.contains(&number)
     }
 }
 
-fn put_word(out: &mut [u32], at: usize, x: u32) {
-    if at < out.len() {
-        out[at] = x;
+pub fn copy(from: &[u8], out: &mut [u8]) {
+    for (place, byte) in out.iter_mut().zip(from) {
+        *place = *byte;
     }
 }
 
-fn read_vertex(part: &[u8], i: usize, out: &mut [f64])
-    requires { i ≤ 2 }
-{
-    let p = sheet::items::vertex(part, i);
-    put_float(out, 2 * i, p.x);
-    put_float(out, 2 * i + 1, p.y);
+fn part(sheet: &[u8], at: usize) -> &[u8] {
+    sheet.get(at..).unwrap_or(&sheet[..0])
 }
 
-fn read_vertices(sheet: &[u8], at: usize, out: &mut [f64]) {
-    if sheet.len() < at {
-        return;
-    }
-    let part = &sheet[at..];
-    read_vertex(part, 0, out);
-    read_vertex(part, 1, out);
-    read_vertex(part, 2, out);
+// ---- the lists of a sheet of three vertices and a triangle; 0 for what a sheet has not
+
+#[derive(Clone, Copy)]
+struct Lists {
+    vertices: [f64; 6],
+    triangles: [u32; 3],
+    neighbours: [u32; 3],
+    tags: [u8; 3],
 }
 
-fn read_corners(sheet: &[u8], at: usize, out: &mut [u32]) {
-    if sheet.len() < at {
-        return;
-    }
-    let c = sheet::items::corners(&sheet[at..], 0);
-    put_word(out, 0, c.a);
-    put_word(out, 1, c.b);
-    put_word(out, 2, c.c);
+fn vertices_of(section: &[u8]) -> [f64; 6] {
+    let a = items::vertex(section, 0);
+    let b = items::vertex(section, 1);
+    let c = items::vertex(section, 2);
+    [a.x, a.y, b.x, b.y, c.x, c.y]
 }
 
-fn read_neighbours(sheet: &[u8], at: usize, out: &mut [u32]) {
-    if sheet.len() < at {
-        return;
-    }
-    let part = &sheet[at..];
-    put_word(out, 0, sheet::items::neighbour(part, 0));
-    put_word(out, 1, sheet::items::neighbour(part, 1));
-    put_word(out, 2, sheet::items::neighbour(part, 2));
+fn triangle_of(section: &[u8]) -> [u32; 3] {
+    let corners = items::corners(section, 0);
+    [corners.a, corners.b, corners.c]
 }
 
-fn read_tags(sheet: &[u8], at: usize, out: &mut [u8]) {
-    if sheet.len() < at {
-        return;
+fn neighbours_of(section: &[u8]) -> [u32; 3] {
+    [
+        items::neighbour(section, 0),
+        items::neighbour(section, 1),
+        items::neighbour(section, 2),
+    ]
+}
+
+fn tags_of(section: &[u8]) -> [u8; 3] {
+    [
+        items::tag(section, 0),
+        items::tag(section, 1),
+        items::tag(section, 2),
+    ]
+}
+
+fn lists_of(sheet: &[u8], header: Header) -> Lists {
+    Lists {
+        vertices: vertices_of(part(sheet, header.vertices)),
+        triangles: triangle_of(part(sheet, header.triangles)),
+        neighbours: neighbours_of(part(sheet, header.neighbours)),
+        tags: tags_of(part(sheet, header.tags)),
     }
-    let part = &sheet[at..];
-    crate::sheets::put(out, 0, sheet::items::tag(part, 0));
-    crate::sheets::put(out, 1, sheet::items::tag(part, 1));
-    crate::sheets::put(out, 2, sheet::items::tag(part, 2));
 }
 
 // ---- a content, spoiled so that a number refuses it, as compare/src/list_sheets.rs spoils it
 
-fn spoils(s: Spoiling, number: u32) -> bool {
-    s.first == number || s.second == number
-}
-
-fn put_if(given: bool, out: &mut [f64], at: usize, x: f64) {
-    if given {
-        put_float(out, at, x);
+fn spoiled(lists: Lists, by: Spoiling) -> Lists {
+    let mut spoiled = lists;
+    if by.has(6) {
+        spoiled.vertices[2] = f64::NAN;
     }
-}
-
-fn spoil_vertices(xs: &mut [f64], s: Spoiling) {
-    put_if(spoils(s, 6), xs, 2, 0.0 / 0.0);
-    put_if(spoils(s, 7), xs, 1, 1.0 / 0.0);
-}
-
-fn spoil_tags(tags: &mut [u8], s: Spoiling) {
-    if spoils(s, 4) {
-        crate::sheets::put(tags, 0, 3);
+    if by.has(7) {
+        spoiled.vertices[1] = f64::INFINITY;
     }
+    if by.has(4) {
+        spoiled.tags[0] = 3;
+    }
+    spoiled
 }
 
-fn without_room(s: Settings) -> Settings {
-    let limit = s.limit;
-    let tolerance = s.tolerance;
-    let step = s.step;
-    let x = s.x;
-    let y = s.y;
-    Settings {
-        limit,
-        tolerance,
-        step,
-        x,
-        y,
-        room: Whole::Absent,
+fn spoiled_settings(settings: Settings, by: Spoiling) -> Settings {
+    if by.has(5) {
+        return Settings {
+            room: None,
+            ..settings
+        };
     }
-}
-
-fn spoil_settings(settings: Settings, s: Spoiling) -> Settings {
-    if spoils(s, 5) {
-        without_room(settings)
-    } else {
-        settings
-    }
+    settings
 }
 
 // How many neighbours are listed of a triangle, or of none.
-fn edges(t: usize, s: Spoiling) -> usize {
-    if t == 0 {
-        return 0;
+fn edges(t: usize, by: Spoiling) -> usize {
+    match (t, by.has(3)) {
+        (0, _) => 0,
+        (_, true) => 2,
+        (_, false) => 3,
     }
-    if spoils(s, 3) { 2 } else { 3 }
 }
 
 // ---- writing
 
-// Writes n vertices with their tags and t triangles, as far as they are there; else the answer is 0.
+// Writes n vertices with their tags and t triangles to a buffer; none where they are not all there.
 fn write_lists(
     header: Header,
-    s: Spoiling,
-    vertices: &[f64],
-    triangles: &[u32],
-    neighbours: &[u32],
-    tags: &[u8],
+    by: Spoiling,
+    lists: &Lists,
     out: &mut [u8],
-) -> Written {
-    let settings = spoil_settings(header.settings, s);
-    let n = header.n;
-    let t = header.t;
-    if tags.len() < n {
-        return Written::Refused(0);
-    }
-    if vertices.len() / 2 < n {
-        return Written::Refused(0);
-    }
-    if triangles.len() / 3 < t {
-        return Written::Refused(0);
-    }
-    let k = edges(t, s);
-    if neighbours.len() < k {
-        return Written::Refused(0);
-    }
-    sheet::write_sheet(
-        &vertices[..2 * n],
-        &triangles[..3 * t],
-        &neighbours[..k],
-        &tags[..n],
-        settings,
-        out,
-    )
-}
-
-fn write_content(
-    sheet: &[u8],
-    header: Header,
-    s: Spoiling,
-    vertices: &mut [f64],
-    triangles: &mut [u32],
-    neighbours: &mut [u32],
-    tags: &mut [u8],
-    out: &mut [u8],
-) -> Written {
-    read_vertices(sheet, header.vertices, vertices);
-    read_corners(sheet, header.triangles, triangles);
-    read_neighbours(sheet, header.neighbours, neighbours);
-    read_tags(sheet, header.tags, tags);
-    spoil_vertices(vertices, s);
-    spoil_tags(tags, s);
-    write_lists(header, s, vertices, triangles, neighbours, tags, out)
+) -> Option<Result<usize, Refusal>> {
+    let content = Content {
+        vertices: lists.vertices.get(..header.n.checked_mul(2)?)?,
+        triangles: lists.triangles.get(..header.t.checked_mul(3)?)?,
+        neighbours: lists.neighbours.get(..edges(header.t, by))?,
+        tags: lists.tags.get(..header.n)?,
+        settings: spoiled_settings(header.settings, by),
+    };
+    Some(sheet::write_sheet(&content, out))
 }
 
 // Writes the content of an accepted sheet, spoiled, to the front of out.
-fn write(sheet: &[u8], header: Header, s: Spoiling, out: &mut [u8], space: usize) -> Written {
-    let mut vertices = [0.0; 6];
-    let mut triangles = [0u32; 3];
-    let mut neighbours = [0u32; 3];
-    let mut tags = [0u8; 3];
-    if out.len() < space {
-        return Written::Refused(0);
-    }
-    write_content(
-        sheet,
-        header,
-        s,
-        &mut vertices,
-        &mut triangles,
-        &mut neighbours,
-        &mut tags,
-        &mut out[..space],
-    )
-}
-
-// Whether the front of a buffer is this.
-fn starts(with: &[u8], out: &[u8]) -> bool {
-    if out.len() < with.len() {
-        return false;
-    }
-    let mut i = 0;
-    while i < with.len() {
-        if with[i] != out[i] {
-            return false;
-        }
-        i += 1;
-    }
-    true
+fn write(
+    sheet: &[u8],
+    header: Header,
+    by: Spoiling,
+    out: &mut [u8],
+    space: usize,
+) -> Option<Result<usize, Refusal>> {
+    let lists = spoiled(lists_of(sheet, header), by);
+    write_lists(header, by, &lists, out.get_mut(..space)?)
 }
 
 // Whether an accepted sheet is written byte for byte.
-pub fn written_again(sheet: &[u8], header: Header, out: &mut [u8]) -> bool {
-    let none = Spoiling {
-        first: 0,
-        second: 0,
-    };
-    let length = sheet.len();
-    let written = write(sheet, header, none, out, length);
+pub fn is_written_again(sheet: &[u8], header: Header) -> bool {
+    let mut out = [0u8; SPACE];
+    let written = write(sheet, header, Spoiling([0, 0]), &mut out, sheet.len());
     match written {
-        Written::Refused(_) => false,
-        Written::Bytes(k) => k == length && starts(sheet, out),
+        Some(Ok(k)) => k == sheet.len() && out.starts_with(sheet),
+        Some(Err(_)) | None => false,
     }
 }
 
 // Whether the base is answered so. A buffer that nothing is written to has to be as it was, and so has what is behind the sheet.
-fn answers(
-    answer: u32,
-    header: Header,
-    s: Spoiling,
-    space: usize,
-    out: &mut [u8],
-    expected: &mut [u8],
-) -> bool {
-    let written = write(&crate::tables::BASE, header, s, out, space);
-    match written {
-        Written::Refused(k) => k == answer && starts(expected, out),
-        Written::Bytes(k) => {
-            crate::sheets::copy(&crate::tables::BASE, expected);
-            answer == 0 && k == crate::tables::BASE.len() && starts(expected, out)
+fn is_answered(answer: u32, header: Header, by: Spoiling, space: usize) -> bool {
+    let mut out = [170u8; SPACE];
+    let mut expected = [170u8; SPACE];
+    match write(&BASE, header, by, &mut out, space) {
+        Some(Err(refusal)) => refusal.number() == answer && out == expected,
+        Some(Ok(k)) => {
+            copy(&BASE, &mut expected);
+            answer == 0 && k == BASE.len() && out == expected
         }
+        None => false,
     }
 }
 
-fn agrees(answer: u32, first: u32, second: u32, space: usize) -> bool {
-    let mut out = [170u8; SPACE];
-    let mut expected = [170u8; SPACE];
-    let s = Spoiling { first, second };
-    let checked = sheet::check_sheet(&crate::tables::BASE);
-    match checked {
-        Checked::Refused(_) => false,
-        Checked::Accepted(header) => answers(answer, header, s, space, &mut out, &mut expected),
+fn agrees(row: &[u32; 4]) -> bool {
+    match sheet::check_sheet(&BASE) {
+        Ok(header) => is_answered(row[0], header, Spoiling([row[1], row[2]]), row[3] as usize),
+        Err(_) => false,
     }
 }
 
 // How many rows have this answer, and how many of them agree.
 pub fn replayed(table: &[u32], answer: u32) -> Counts {
-    let mut all: usize = 0;
-    let mut agree: usize = 0;
-    let mut at: usize = 0;
-    while 4 <= table.len() - at {
-        let end = at + 4;
-        if table[at] == answer {
-            let space = crate::sheets::size(table[at + 3]);
-            all += 1;
-            if agrees(answer, table[at + 1], table[at + 2], space) {
-                agree += 1;
-            }
-        }
-        at = end;
+    let (rows, _) = table.as_chunks::<4>();
+    Counts {
+        all: rows.iter().filter(|row| row[0] == answer).count(),
+        agree: rows
+            .iter()
+            .filter(|row| row[0] == answer && agrees(row))
+            .count(),
     }
-    Counts { all, agree }
 }

@@ -1,91 +1,84 @@
-// Whether the reader answers as a list's rows say. A row is the answer, 0 where the sheet is accepted, the sheet's length, and what it differs in from the base.
-use sheet::Checked;
+// Whether the reader answers as a list's rows say. A row is the answer, 0 where the sheet is accepted, the sheet's length, how many changes of the base there are, and each change.
+ghost use Rattle.std.specs.Prelude.{length};
+ghost use Rattle.std.specs.Iterator.{at_most};
+
+use crate::contents;
+use crate::tables::BASE;
 
 // More than the longest sheet of the list has.
 pub const SPACE: usize = 160;
 
+// How many rows have an answer, and how many of them agree.
 #[derive(Clone, Copy)]
 pub struct Counts {
     pub all: usize,
     pub agree: usize,
 }
 
-pub fn size(x: u32) -> usize {
-    x as usize
+// `changes` is none where the table ends before them.
+#[derive(Clone, Copy)]
+struct Row<'a> {
+    answer: u32,
+    length: usize,
+    changes: Option<&'a [u32]>,
 }
 
-pub fn put(out: &mut [u8], at: usize, b: u8) {
-    if at < out.len() {
-        out[at] = b;
-    }
-}
+// The rows that a table has left.
+#[derive(Clone, Copy)]
+struct Rows<'a>(&'a [u32]);
 
-pub fn copy(from: &[u8], out: &mut [u8]) {
-    let mut i = 0;
-    while i < from.len() {
-        put(out, i, from[i]);
-        i += 1;
+impl<'a> Iterator for Rows<'a> {
+    type Item = Row<'a>;
+
+    ghost remaining = { λ s. at_most (length s.0.now) };
+
+    fn next(&mut self) -> Option<Row<'a>> {
+        let (head, behind) = self.0.split_first_chunk::<3>()?;
+        let count = head[2] as usize;
+        self.0 = behind.get(count..).unwrap_or(&behind[..0]);
+        Some(Row {
+            answer: head[0],
+            length: head[1] as usize,
+            changes: behind.get(..count),
+        })
     }
 }
 
 // A change is place * 256 + byte.
-fn put_change(out: &mut [u8], change: u32) {
-    put(out, (change / 256) as usize, (change % 256) as u8);
-}
-
 fn put_changes(out: &mut [u8], changes: &[u32]) {
-    let mut i = 0;
-    while i < changes.len() {
-        put_change(out, changes[i]);
-        i += 1;
+    for change in changes {
+        if let Some(place) = out.get_mut((*change / 256) as usize) {
+            *place = (*change % 256) as u8;
+        }
     }
 }
 
 // An accepted sheet is written again too.
-fn answers(sheet: &[u8], answer: u32, out: &mut [u8]) -> bool {
-    let checked = sheet::check_sheet(sheet);
-    match checked {
-        Checked::Refused(k) => k == answer,
-        Checked::Accepted(header) => {
-            answer == 0 && crate::contents::written_again(sheet, header, out)
-        }
+fn is_answered(sheet: &[u8], answer: u32) -> bool {
+    match sheet::check_sheet(sheet) {
+        Err(refusal) => refusal.number() == answer,
+        Ok(header) => answer == 0 && contents::is_written_again(sheet, header),
     }
 }
 
-fn made(sheet: &mut [u8], answer: u32, length: usize, changes: &[u32], out: &mut [u8]) -> bool {
-    copy(&crate::tables::BASE, sheet);
-    put_changes(sheet, changes);
-    if sheet.len() < length {
-        return false;
-    }
-    answers(&sheet[..length], answer, out)
-}
-
-fn agrees(answer: u32, length: usize, changes: &[u32]) -> bool {
+fn agrees(row: Row) -> bool {
     let mut sheet = [0u8; SPACE];
-    let mut out = [0u8; SPACE];
-    made(&mut sheet, answer, length, changes, &mut out)
+    contents::copy(&BASE, &mut sheet);
+    let Some(changes) = row.changes else {
+        return false;
+    };
+    put_changes(&mut sheet, changes);
+    match sheet.get(..row.length) {
+        Some(front) => is_answered(front, row.answer),
+        None => false,
+    }
 }
 
-// How many rows have this answer, and how many of them agree.
 pub fn replayed(table: &[u32], answer: u32) -> Counts {
-    let mut all: usize = 0;
-    let mut agree: usize = 0;
-    let mut at: usize = 0;
-    while 3 <= table.len() - at {
-        let start = at + 3;
-        let k = size(table[at + 2]);
-        if table.len() - start < k {
-            return Counts { all: 1, agree: 0 };
-        }
-        let end = start + k;
-        if table[at] == answer {
-            all += 1;
-            if agrees(answer, size(table[at + 1]), &table[start..end]) {
-                agree += 1;
-            }
-        }
-        at = end;
+    Counts {
+        all: Rows(table).filter(|row| row.answer == answer).count(),
+        agree: Rows(table)
+            .filter(|row| row.answer == answer && agrees(*row))
+            .count(),
     }
-    Counts { all, agree }
 }

@@ -1,22 +1,16 @@
 // The right side: what the held vertices push on the free ones, and their own values.
 #![tactic(auto)]
 
-ghost use Rattle.std.specs.Prelude.{◌≡◌, ◌+◌, ◌*◌, ◌≤◌, ◌<◌, length, get_or, set};
-ghost use Rattle.std.specs.Float.{nan};
+ghost use Rattle.std.specs.Prelude.{◌≡◌, ◌<◌, length};
 ghost use Rattle.binary64.specs.Arith.{◌⊖◌, ◌⊗◌};
-ghost use Rattle.stretch.specs.Stretch.{part, Wrote};
 ghost use Rattle.laplace.specs.Mesh.{held_value};
 ghost use Rattle.laplace.specs.Assembly as Assembly;
 ghost use Rattle.laplace.specs.Element as Element;
 ghost use Rattle.laplace.specs.Element.{Within};
-ghost use Rattle.laplace.specs.Laid.{LaidFloats, LaidWords};
-ghost use Rattle.laplace.specs.Row.{tags_in};
-ghost use Rattle.laplace.specs.Whole.{pushes_in};
+ghost use Rattle.laplace.specs.Elements.{IsMesh, pushes_of};
 ghost use Rattle.laplace.specs.Right as Right;
 
-use laplace::Places;
-use laplace::corners::wide;
-use laplace::element::{Side, Stiff, Triangle, side_of, stiff_at, triangle_at};
+use laplace::element::{Elements, Side, Stiff, Triangle};
 
 // The value at which a tag holds a vertex.
 pub fn held_value(tag: u32) -> f64
@@ -28,137 +22,83 @@ pub fn held_value(tag: u32) -> f64
     0.0
 }
 
-// The number at a place, less v times the value of a tag.
-fn lower(floats: &mut [f64], at: usize, v: f64, tag: u32)
-    requires { at < length floats.old }
-    ensures { floats.new ≡ set floats.old at (get_or floats.old at nan ⊖ v ⊗ held_value tag) }
+// A number less v times the value of a tag.
+fn lowered(y: f64, v: f64, tag: u32) -> f64
+    ensures { result ≡ y ⊖ v ⊗ held_value tag }
 {
-    floats[at] = floats[at] - v * held_value(tag);
+    y - v * held_value(tag)
 }
 
-// A push of vertex i on vertex j: where one is free and the other held, it lowers the free one's, for one of the two places of the pair.
-fn couple(
-    floats: &mut [f64],
-    words: &[u32],
-    n: usize,
-    right: usize,
-    tags: usize,
-    i: u32,
-    j: u32,
-    v: f64,
-)
-    requires { Right.Couples floats.old words.now n right tags × (i < n) × (j < n) }
-    ensures { Wrote floats.old floats.new right n
-        (Right.coupled_by (part words.now tags n) (Assembly.push i j v) (part floats.old right n)) }
+// A push of vertex i on vertex j: where one is free and the other held, it lowers the free one's number, for one of the two places of the pair.
+fn couple(right: &mut [f64], tags: &[u32], i: u32, j: u32, v: f64)
+    requires { (i < length tags.now) × (j < length tags.now) × (length right.old ≡ length tags.now) }
+    ensures { right.new ≡ Right.coupled_by tags.now (Assembly.push i j v) right.old }
 {
     if i > j {
         return;
     }
-    let p = wide(i);
-    let q = wide(j);
-    let a = tags + p;
-    let b = tags + q;
-    let ti = words[a];
-    let tj = words[b];
-    if ti == 0 {
-        if tj == 0 {
-            return;
-        }
-        lower(floats, right + p, v, tj);
-        return;
-    }
-    if tj == 0 {
-        lower(floats, right + q, v, ti);
+    let p = i as usize;
+    let q = j as usize;
+    match (tags[p], tags[q]) {
+        (0, 0) => {}
+        (0, tag) => right[p] = lowered(right[p], v, tag),
+        (tag, 0) => right[q] = lowered(right[q], v, tag),
+        _ => {}
     }
 }
 
 // The three pushes of one corner, which is vertex v.
-fn couple_side(
-    floats: &mut [f64],
-    words: &[u32],
-    n: usize,
-    right: usize,
-    tags: usize,
-    v: u32,
-    q: Triangle,
-    s: Side,
-)
-    requires { Right.Couples floats.old words.now n right tags × (v < n) × Within n q }
-    ensures { Wrote floats.old floats.new right n
-        (Assembly.all_coupled held_value (part words.now tags n) (Right.side_pushes v q s) (part floats.old right n)) }
+fn couple_side(right: &mut [f64], tags: &[u32], v: u32, q: Triangle, s: Side)
+    requires { (v < length tags.now) × Within (length tags.now) q × (length right.old ≡ length tags.now) }
+    ensures { right.new ≡ Assembly.all_coupled held_value tags.now (Right.side_pushes v q s) right.old }
 {
-    couple(floats, words, n, right, tags, v, q.i, s.i);
-    couple(floats, words, n, right, tags, v, q.j, s.j);
-    couple(floats, words, n, right, tags, v, q.k, s.k);
+    couple(right, tags, v, q.i, s.i);
+    couple(right, tags, v, q.j, s.j);
+    couple(right, tags, v, q.k, s.k);
 }
 
 // The nine pushes of a triangle.
-fn couple_triangle(
-    floats: &mut [f64],
-    words: &[u32],
-    n: usize,
-    right: usize,
-    tags: usize,
-    q: Triangle,
-    s: Stiff,
-)
-    requires { Right.Couples floats.old words.now n right tags × Within n q }
-    ensures { Wrote floats.old floats.new right n
-        (Assembly.all_coupled held_value (part words.now tags n) (Right.stiff_pushes q s) (part floats.old right n)) }
+fn couple_sides(right: &mut [f64], tags: &[u32], q: Triangle, s: Stiff)
+    requires { Within (length tags.now) q × (length right.old ≡ length tags.now) }
+    ensures { right.new ≡ Assembly.all_coupled held_value tags.now (Right.stiff_pushes q (Some s)) right.old }
 {
-    if s.skipped {
-        return;
-    }
-    let a = side_of(s, 0);
-    couple_side(floats, words, n, right, tags, q.i, q, a);
-    let b = side_of(s, 1);
-    couple_side(floats, words, n, right, tags, q.j, q, b);
-    let c = side_of(s, 2);
-    couple_side(floats, words, n, right, tags, q.k, q, c);
+    couple_side(right, tags, q.i, q, s.side(0));
+    couple_side(right, tags, q.j, q, s.side(1));
+    couple_side(right, tags, q.k, q, s.side(2));
 }
 
 // Whether the corners of a triangle are free.
-fn is_free(words: &[u32], n: usize, tags: usize, q: Triangle) -> bool
-    requires { (tags + n ≤ length words.now) × Within n q }
-    ensures { result ≡ Right.all_free (part words.now tags n) q }
+fn is_free(tags: &[u32], q: Triangle) -> bool
+    requires { Within (length tags.now) q }
+    ensures { result ≡ Right.all_free tags.now q }
 {
-    let a = tags + wide(q.i);
-    let b = tags + wide(q.j);
-    let c = tags + wide(q.k);
-    (words[a] == 0) & (words[b] == 0) & (words[c] == 0)
+    // Without a branch; of `all` over the three the proof did not close.
+    let (i, j, k) = (tags[q.i as usize], tags[q.j as usize], tags[q.k as usize]);
+    (i == 0) & (j == 0) & (k == 0)
 }
 
-// Those of the triangle q of the mesh: nothing where its corners are free.
-fn couple_corners(
-    floats: &mut [f64],
-    words: &[u32],
-    n: usize,
-    vertices: usize,
-    right: usize,
-    tags: usize,
-    flat: f64,
-    q: Triangle,
-)
-    requires { Right.Couples floats.old words.now n right tags × (vertices + 2 * n ≤ length floats.old) × Within n q }
-    ensures { Wrote floats.old floats.new right n
-        (Assembly.all_coupled held_value (part words.now tags n) (Right.stiff_pushes q (Element.stiff_in flat (part floats.old vertices (2 * n)) q)) (part floats.old right n)) }
+// Those of the triangle q of the mesh: nothing where its corners are free, or where it is skipped.
+fn couple_triangle(right: &mut [f64], mesh: &Elements, q: Triangle)
+    requires { IsMesh mesh.now × Within (length mesh.now.tags.now) q × (length right.old ≡ length mesh.now.tags.now) }
+    ensures { right.new ≡ Assembly.all_coupled held_value mesh.now.tags.now (Right.stiff_pushes q (Element.stiff_in mesh.now.flat mesh.now.vertices.now q)) right.old }
 {
-    if is_free(words, n, tags, q) {
+    if is_free(mesh.tags, q) {
         return;
     }
-    let s = stiff_at(floats, vertices, n, flat, q);
-    couple_triangle(floats, words, n, right, tags, q, s);
+    if let Some(s) = mesh.stiff(q) {
+        couple_sides(right, mesh.tags, q, s);
+    }
 }
 
 // Those of all triangles.
-fn couple_all(floats: &mut [f64], words: &[u32], n: usize, t: usize, at: Places, flat: f64)
-    requires { LaidFloats floats.old n t at × LaidWords words.now n t at }
-    ensures { Wrote floats.old floats.new at.right n
-        (Assembly.all_coupled held_value (tags_in words.now n at) (pushes_in flat floats.old words.now n t at) (part floats.old at.right n)) }
+fn couple_all(right: &mut [f64], mesh: &Elements)
+    requires { IsMesh mesh.now × (length right.old ≡ length mesh.now.tags.now) }
+    ensures { right.new ≡ Assembly.all_coupled held_value mesh.now.tags.now (pushes_of mesh.now) right.old }
 {
-    for i in 0..t {
-        let q = triangle_at(words, at.triangles, t, i, n);
-        couple_corners(floats, words, n, at.vertices, at.right, at.tags, flat, q);
+    // By number, since a mesh gives its triangles by their numbers.
+    for i in 0..mesh.triangles.len() / 3 {
+        let q = mesh.triangle(i);
+        couple_triangle(right, mesh, q);
     }
 }
 
@@ -173,24 +113,22 @@ fn settled_value(tag: u32, y: f64) -> f64
 }
 
 // Held vertices have their value.
-fn settle(floats: &mut [f64], words: &[u32], n: usize, right: usize, tags: usize)
-    requires { Right.Couples floats.old words.now n right tags }
-    ensures { Wrote floats.old floats.new right n (Assembly.settled held_value (part words.now tags n) (part floats.old right n)) }
+fn settle(right: &mut [f64], tags: &[u32])
+    requires { length right.old ≡ length tags.now }
+    ensures { right.new ≡ Assembly.settled held_value tags.now right.old }
 {
-    for i in 0..n {
-        let a = tags + i;
-        let b = right + i;
-        floats[b] = settled_value(words[a], floats[b]);
+    // By index: of what a zip with `iter_mut` writes a proof knows nothing.
+    for (i, &tag) in tags.iter().enumerate() {
+        right[i] = settled_value(tag, right[i]);
     }
 }
 
 // The whole right side.
-pub fn right_side(floats: &mut [f64], words: &[u32], n: usize, t: usize, at: Places, flat: f64)
-    requires { LaidFloats floats.old n t at × LaidWords words.now n t at }
-    ensures { Wrote floats.old floats.new at.right n
-        (Assembly.right_side held_value (tags_in words.now n at) (pushes_in flat floats.old words.now n t at) n) }
+pub fn right_side(right: &mut [f64], mesh: &Elements)
+    requires { IsMesh mesh.now × (length right.old ≡ length mesh.now.tags.now) }
+    ensures { right.new ≡ Assembly.right_side held_value mesh.now.tags.now (pushes_of mesh.now) (length mesh.now.tags.now) }
 {
-    stretch::fill(floats, at.right, n, 0.0);
-    couple_all(floats, words, n, t, at, flat);
-    settle(floats, words, n, at.right, at.tags);
+    right.fill(0.0);
+    couple_all(right, mesh);
+    settle(right, mesh.tags);
 }

@@ -4,8 +4,7 @@
 // `root` is the definition; the double that it gives is the nearest one (specs/RootTheorems.antt).
 #![tactic(auto)]
 
-ghost use Rattle.std.specs.Prelude.{◌≡◌, ◌+◌, ◌*◌, ◌/◌, ◌%◌, ◌^◌, ◌<◌, ◌≤◌, true};
-ghost use Rattle.binary64.specs.Number.{pick};
+ghost use Rattle.std.specs.Prelude.{IfSome, ◌≡◌, ◌+◌, ◌*◌, ◌/◌, ◌%◌, ◌^◌, ◌<◌, ◌≤◌, true};
 ghost use Rattle.binary64.specs.Root.{root, root_of, root_pattern, whole_root};
 
 // The weight of the exponent's field in a pattern, and of a significand's leading digit: 2^52.
@@ -23,9 +22,6 @@ const HALF: u64 = 0x0400_0000;
 // The bound of what 26 zeros can follow in 63 digits: 2^37.
 const ROOM: u64 = 0x0020_0000_0000;
 
-// What stands for no remainder.
-const NONE: u64 = 0xffff_ffff_ffff_ffff;
-
 // The whole part of the root of `operand` followed by 54 zeros. Each turn brings down two digits
 // of the operand and settles one of the root: it is 1 where 4 · root + 1 is within the remainder.
 fn digit_root(operand: u64) -> u64
@@ -35,8 +31,7 @@ fn digit_root(operand: u64) -> u64
     let mut rest = operand;
     let mut remainder: u64 = 0;
     let mut root: u64 = 0;
-    let mut i: u64 = 0;
-    while i < 54 {
+    for _ in 0..54u64 {
         remainder = remainder * 4 + rest / LEADING;
         rest = rest % LEADING * 4;
         let trial = 4 * root + 1;
@@ -45,7 +40,6 @@ fn digit_root(operand: u64) -> u64
             remainder -= trial;
             root += 1;
         }
-        i += 1;
     }
     root
 }
@@ -76,41 +70,36 @@ fn guess(x: f64, bits: u64) -> f64
     r + 0.5 * r * (1.0 - r * z)
 }
 
-// What the square of q leaves of `operand` followed by 52 zeros; `NONE` where it is above that or
+// What the square of q leaves of `operand` followed by 52 zeros; none where it is above that or
 // leaves much. q is a · 2^26 + b, and a², 2ab and b² are taken off in turn.
-fn remainder(operand: u64, q: u64) -> u64
+fn remainder(operand: u64, q: u64) -> Option<u64>
     requires { (operand < 2 ^ 54) × (q < 2 ^ 53) }
-    ensures { result < 2 ^ 63 → q * q + result ≡ operand * 2 ^ 52 }
+    ensures { IfSome result (λ rest. q * q + rest ≡ operand * 2 ^ 52) }
 {
     let a = q / HALF;
     let b = q % HALF;
+    // `checked_sub` with `?` in place of these tests takes 1.07 times as long
     let high = a * a;
     if operand < high {
-        return NONE;
+        return None;
     }
     let first = operand - high;
     if ROOM <= first {
-        return NONE;
+        return None;
     }
     let cross = 2 * a * b;
     if first * HALF < cross {
-        return NONE;
+        return None;
     }
     let second = first * HALF - cross;
     if ROOM <= second {
-        return NONE;
+        return None;
     }
     let low = b * b;
     if second * HALF < low {
-        return NONE;
+        return None;
     }
-    second * HALF - low
-}
-
-fn one_where(b: bool) -> u64
-    ensures { (result ≡ pick b 1 0) × (result ≤ 1) }
-{
-    if b { 1 } else { 0 }
+    Some(second * HALF - low)
 }
 
 // The same from a guess, where that is one to three below it. The square of what lies half way
@@ -122,14 +111,16 @@ fn nearest_root(operand: u64, q: u64) -> u64
     if 2 * LEADING <= q {
         return digits_rounded(operand);
     }
-    let rest = remainder(operand, q);
+    let Some(rest) = remainder(operand, q) else {
+        return digits_rounded(operand);
+    };
     if rest <= q {
         return digits_rounded(operand);
     }
     if 7 * q + 12 < rest {
         return digits_rounded(operand);
     }
-    q + 1 + one_where(3 * q + 2 < rest) + one_where(5 * q + 6 < rest)
+    q + 1 + u64::from(3 * q + 2 < rest) + u64::from(5 * q + 6 < rest)
 }
 
 // The digits whose root is taken: m at an even exponent, twice m at an odd one.
@@ -148,11 +139,13 @@ fn is_root(g: u64, m: u64, pattern: u64) -> bool
 {
     let operand = operand_of(g, m);
     let base = (g / 2 - 1) * LEADING;
-    let q = std::num::wrapping_sub_u64(pattern, base + 1);
+    let q = pattern.wrapping_sub(base + 1);
     if 2 * LEADING <= q {
         return false;
     }
-    let rest = remainder(operand, q);
+    let Some(rest) = remainder(operand, q) else {
+        return false;
+    };
     (q < rest) & (rest <= 3 * q + 2)
 }
 
@@ -164,7 +157,7 @@ fn root_pattern(g: u64, m: u64, guessed: u64) -> u64
 {
     let operand = operand_of(g, m);
     let base = (g / 2 - 1) * LEADING;
-    let q = std::num::wrapping_sub_u64(guessed, base);
+    let q = guessed.wrapping_sub(base);
     base + nearest_root(operand, q)
 }
 
@@ -173,7 +166,7 @@ fn root_of_subnormal(digits: u64) -> u64
     requires { (0 < digits) × (digits < 2 ^ 52) }
     ensures { result ≡ root_of 0 digits }
 {
-    let z = u64::leading_zeros(digits) - 11;
+    let z = digits.leading_zeros() - 11;
     root_pattern(1024 - z as u64, digits << z, 0)
 }
 
@@ -189,12 +182,12 @@ fn root_of_ordinary(field: u64, digits: u64, guessed: u64) -> u64
 pub fn sqrt(x: f64) -> f64
     ensures { result ≡ root x }
 {
-    if x != x {
+    if x.is_nan() {
         return x;
     }
-    let bits = f64::to_bits(x);
+    let bits = x.to_bits();
     if SIGN < bits {
-        return 0.0 / 0.0;
+        return f64::NAN;
     }
     let field = bits / LEADING % 2048;
     let digits = bits % LEADING;
@@ -209,16 +202,16 @@ pub fn sqrt(x: f64) -> f64
         // ordinary
         1..=2046 => {
             let s = guess(x, bits);
-            if s != s {
+            if s.is_nan() {
                 return f64::from_bits(root_of_ordinary(field, digits, 0));
             }
-            let pattern = f64::to_bits(s);
+            let pattern = s.to_bits();
             if is_root(1023 + field, LEADING + digits, pattern) {
                 // as it is: a processor can go on with it before the test is done
                 return s;
             }
             // `nearest_root` wants a guess one to three below
-            f64::from_bits(root_of_ordinary(field, digits, std::num::wrapping_sub_u64(pattern, 2)))
+            f64::from_bits(root_of_ordinary(field, digits, pattern.wrapping_sub(2)))
         }
         // infinite
         _ => x,

@@ -2,4 +2,4 @@
 #![tactic(auto)]
 
 pub mod matrix;
-mod row;
+pub mod row;

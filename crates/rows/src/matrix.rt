@@ -1,70 +1,64 @@
-// The matrix: each row is built in the row buffer and put behind the rows before it.
-ghost use Rattle.std.specs.Prelude.{◌+◌, ◌*◌, ◌<◌, ◌≤◌, length};
-ghost use Rattle.laplace.specs.Whole as Whole;
+// The matrix: each row is built in a row and put behind the rows before it.
+ghost use Rattle.std.specs.Prelude.{◌≡◌, ◌+◌, ◌<◌, ◌≤◌, length, replicate, take};
+ghost use Rattle.binary64.specs.Constants.{plus_zero};
+ghost use Rattle.stretch.specs.Stretch.{splice};
+ghost use Rattle.laplace.specs.Rows as Rows;
+ghost use Rattle.rows.specs.Buffers.{SameRow, SameMatrix, IsReady, PutsRow, PutsRows};
 
-use crate::row::fill_row;
-use laplace::Places;
+use crate::row::{Corners, Row};
+use laplace::element::Elements;
 
-// The k entries of the row buffer, copied behind `count` others; the row buffer is clear then.
-fn append(
-    floats: &mut [f64],
-    words: &mut [u32],
-    n: usize,
-    t: usize,
-    at: Places,
-    k: usize,
-    count: usize,
-)
-    requires { Whole.Appends floats.old words.old n t at k count }
-    ensures { Whole.Appended floats.old words.old floats.new words.new at k count }
-{
-    let row = at.row;
-    let rowcols = at.rowcols;
-    let v = at.values + count;
-    let c = at.cols + count;
-    stretch::copy(floats, row, v, k);
-    stretch::copy_words(words, rowcols, c, k);
-    stretch::fill(floats, row, k, 0.0);
-    stretch::fill_words(words, rowcols, k, 0);
+// The rows that are put down: where each starts among the entries, and the columns and the values of the `count` entries.
+#[derive(Drop)]
+pub struct Matrix<'a> {
+    pub starts: &'a mut [u32],
+    pub cols: &'a mut [u32],
+    pub values: &'a mut [f64],
+    pub count: usize,
 }
 
-// Row r put behind `count` entries. Answers how many there are then.
-fn put_row(
-    floats: &mut [f64],
-    words: &mut [u32],
-    n: usize,
-    t: usize,
-    at: Places,
-    flat: f64,
-    r: usize,
-    count: usize,
-) -> usize
-    requires { Whole.Ready floats.old words.old n t at × (r < n) × (count + length (Whole.row_for flat floats.old words.old n t at r) ≤ 9 * t + n) }
-    ensures { Whole.RowPut floats.old words.old floats.new words.new at r count result (Whole.row_for flat floats.old words.old n t at r) }
-{
-    let k = fill_row(floats, words, n, t, at, flat, r);
-    append(floats, words, n, t, at, k, count);
-    let end = count + k;
-    let q = at.starts + r + 1;
-    words[q] = end as u32;
-    end
-}
-
-// All rows. Answers how many entries they have.
-pub fn fill_matrix(
-    floats: &mut [f64],
-    words: &mut [u32],
-    n: usize,
-    t: usize,
-    at: Places,
-    flat: f64,
-) -> usize
-    requires { Whole.Ready floats.old words.old n t at }
-    ensures { Whole.RowsPut floats.old words.old floats.new words.new at result (Whole.rows_for flat floats.old words.old n t at n) }
-{
-    let mut count = 0;
-    for r in 0..n {
-        count = put_row(floats, words, n, t, at, flat, r, count);
+impl Matrix<'_> {
+    // The entries of a row, put behind the others; the row is clear then.
+    fn append(&mut self, row: &mut Row)
+        requires { Rows.Appends (length row.old.values.now) (length row.old.cols.now) (length self.old.values.now) (length self.old.cols.now) row.old.count self.old.count }
+        ensures same { SameMatrix self.old self.new × SameRow row.old row.new }
+        ensures values { self.new.values.now ≡ splice self.old.values.now self.old.count (take row.old.count row.old.values.now) }
+        ensures cols { self.new.cols.now ≡ splice self.old.cols.now self.old.count (take row.old.count row.old.cols.now) }
+        ensures count { self.new.count ≡ self.old.count + row.old.count }
+        ensures starts { self.new.starts.now ≡ self.old.starts.now }
+        ensures clear { (row.new.values.now ≡ splice row.old.values.now 0 (replicate row.old.count plus_zero)) × (row.new.cols.now ≡ splice row.old.cols.now 0 (replicate row.old.count 0)) × (row.new.count ≡ 0) }
+    {
+        let end = self.count + row.count;
+        let (values, cols) = row.entries();
+        self.values[self.count..end].copy_from_slice(values);
+        self.cols[self.count..end].copy_from_slice(cols);
+        row.clear();
+        self.count = end;
     }
-    count
+
+    // Row r put behind the others.
+    fn put_row(&mut self, row: &mut Row, mesh: &Elements, corners: Corners, r: usize)
+        requires { IsReady mesh.now corners row.old self.old × (r < length mesh.now.tags.now) × (self.old.count + length (Rows.row_of mesh.now r) ≤ Rows.room_of mesh.now) }
+        ensures same { SameMatrix self.old self.new × SameRow row.old row.new }
+        ensures row { (row.new.values.now ≡ row.old.values.now) × (row.new.cols.now ≡ row.old.cols.now) × (row.new.count ≡ 0) }
+        ensures put { PutsRow self.old self.new r (Rows.row_of mesh.now r) }
+    {
+        row.fill(mesh, corners, r);
+        self.append(row);
+        self.starts[r + 1] = self.count as u32;
+    }
+
+    // All rows, into an empty matrix.
+    pub fn fill(&mut self, row: &mut Row, mesh: &Elements, corners: Corners)
+        requires { IsReady mesh.now corners row.old self.old × (self.old.count ≡ 0) }
+        ensures same { SameMatrix self.old self.new × SameRow row.old row.new }
+        ensures row { (row.new.values.now ≡ row.old.values.now) × (row.new.cols.now ≡ row.old.cols.now) × (row.new.count ≡ 0) }
+        ensures put { PutsRows self.old self.new (Rows.rows_of mesh.now (length mesh.now.tags.now)) }
+    {
+        self.starts[0] = 0;
+        // By number, since a row is built for a vertex's number.
+        for r in 0..mesh.tags.len() {
+            self.put_row(row, mesh, corners, r);
+        }
+    }
 }

@@ -1,215 +1,161 @@
-// One row of the matrix, built by insertion: its entries' columns in the words, its values in the floats.
-ghost use Rattle.std.specs.Prelude.{◌≡◌, ◌&&◌, [], ◌+◌, ◌*◌, ◌<◌, ◌≤◌, eqb, ltb, length, get_or};
-ghost use Rattle.stretch.specs.Stretch.{part, splice};
+// One row of the matrix, built by insertion.
+ghost use Rattle.std.specs.Prelude.{◌≡◌, [], ◌+◌, ◌<◌, ◌≤◌, length, nat_le, position, replicate, slice_set, take};
+ghost use Rattle.std.specs.List.{copy_within};
+ghost use Rattle.binary64.specs.Constants.{plus_zero};
+ghost use Rattle.stretch.specs.Stretch.{splice};
 ghost use Rattle.laplace.specs.Assembly as Assembly;
 ghost use Rattle.laplace.specs.Element.{Within};
-ghost use Rattle.laplace.specs.Row as Row;
+ghost use Rattle.laplace.specs.Elements.{pushes_of};
+ghost use Rattle.laplace.specs.Row as Entries;
+ghost use Rattle.rows.specs.Buffers.{entries_of, IsBuilt, SameRow, Writes, AreLinked};
 
-use laplace::Places;
-use laplace::corners::wide;
-use laplace::element::{Side, Triangle, side_of, stiff_at, triangle_at};
+use laplace::element::{Elements, Side, Triangle};
 
-// How many of the k columns from `at` lie before the column j.
-fn position(words: &[u32], at: usize, k: usize, j: u32) -> usize
-    requires { at + k ≤ length words.now }
-    ensures { (result ≡ Row.position_of j (part words.now at k)) × (result ≤ k) }
+// The row that is built: its entries' values and columns at the front of the two, and how many there are.
+#[derive(Drop)]
+pub struct Row<'a> {
+    pub values: &'a mut [f64],
+    pub cols: &'a mut [u32],
+    pub count: usize,
+}
+
+// The corners of each vertex, by heads and links.
+#[derive(Clone, Copy)]
+pub struct Corners<'a> {
+    pub heads: &'a [u32],
+    pub links: &'a [u32],
+}
+
+// Where the first column stands that is j or behind it.
+fn first_from(cols: &[u32], j: u32) -> Option<usize>
+    ensures { result ≡ position (λ c. nat_le j c) cols.now }
 {
-    let mut p = 0;
-    while p < k {
-        let q = at + p;
-        if words[q] >= j {
-            return p;
+    cols.iter().position(|&c| c >= j)
+}
+
+impl Row<'_> {
+    // How many of its columns lie before the column j.
+    fn position(&self, j: u32) -> usize
+        requires { self.now.count ≤ length self.now.cols.now }
+        ensures { result ≡ Entries.position_of j (take self.now.count self.now.cols.now) }
+    {
+        first_from(&self.cols[..self.count], j).unwrap_or(self.count)
+    }
+
+    // The value v at the column j: added to the one that stands there, or inserted.
+    fn insert(&mut self, j: u32, v: f64)
+        requires { Entries.Room self.old.values.now self.old.cols.now self.old.count (Assembly.insert j v (entries_of self.old)) }
+        ensures same { SameRow self.old self.new }
+        ensures written { Writes self.old self.new (Assembly.insert j v (entries_of self.old)) }
+    {
+        let p = self.position(j);
+        if p < self.count && self.cols[p] == j {
+            self.values[p] = self.values[p] + v;
+            return;
         }
-        p += 1;
+        self.open_at(p, j, v);
     }
-    p
-}
 
-// Whether the one at p, if there is one, is j.
-fn stands(words: &[u32], at: usize, k: usize, p: usize, j: u32) -> bool
-    requires { at + k ≤ length words.now }
-    ensures { result ≡ (ltb p k && eqb (get_or words.now (at + p) 0) j) }
-{
-    if p < k {
-        let q = at + p;
-        return words[q] == j;
+    // The value v at the column j, put at place p; those from there on move up by one.
+    fn open_at(&mut self, p: usize, j: u32, v: f64)
+        requires { (p ≤ self.old.count) × (self.old.count < length self.old.values.now) × (self.old.count < length self.old.cols.now) }
+        ensures same { SameRow self.old self.new }
+        ensures values { self.new.values.now ≡ slice_set (copy_within self.old.values.now p self.old.count (p + 1)) p v }
+        ensures cols { self.new.cols.now ≡ slice_set (copy_within self.old.cols.now p self.old.count (p + 1)) p j }
+        ensures count { self.new.count ≡ self.old.count + 1 }
+    {
+        let k = self.count;
+        self.values.copy_within(p..k, p + 1);
+        self.cols.copy_within(p..k, p + 1);
+        self.values[p] = v;
+        self.cols[p] = j;
+        self.count = k + 1;
     }
-    false
-}
 
-// The n numbers from `at`, moved up by one.
-fn shift(s: &mut [f64], at: usize, n: usize)
-    requires { at + n < length s.old }
-    ensures { s.new ≡ splice s.old (at + 1) (part s.old at n) }
-{
-    let mut i = n;
-    while 0 < i {
-        let b = at + i;
-        let a = b - 1;
-        s[b] = s[a];
-        i -= 1;
+    // The same where the column is free.
+    fn place(&mut self, mesh: &Elements, j: u32, v: f64)
+        requires { IsBuilt mesh.now self.old × (j < length mesh.now.tags.now) }
+        ensures same { SameRow self.old self.new }
+        ensures written { Writes self.old self.new (Entries.placed mesh.now.tags.now j v (entries_of self.old)) }
+    {
+        if mesh.tags[j as usize] == 0 {
+            self.insert(j, v);
+        }
     }
-}
 
-// The same for words.
-fn shift_words(s: &mut [u32], at: usize, n: usize)
-    requires { at + n < length s.old }
-    ensures { s.new ≡ splice s.old (at + 1) (part s.old at n) }
-{
-    let mut i = n;
-    while 0 < i {
-        let b = at + i;
-        let a = b - 1;
-        s[b] = s[a];
-        i -= 1;
+    // An entry for each corner of a triangle.
+    fn place_three(&mut self, mesh: &Elements, q: Triangle, s: Side)
+        requires { IsBuilt mesh.now self.old × Within (length mesh.now.tags.now) q }
+        ensures same { SameRow self.old self.new }
+        ensures written { Writes self.old self.new (Entries.three_placed mesh.now.tags.now q s (entries_of self.old)) }
+    {
+        self.place(mesh, q.i, s.i);
+        self.place(mesh, q.j, s.j);
+        self.place(mesh, q.k, s.k);
     }
-}
 
-// The value v at the column j of the k entries from f in the floats and c in the words: added to the one that stands there, or inserted. Answers how many entries there are then.
-fn insert(
-    floats: &mut [f64],
-    words: &mut [u32],
-    f: usize,
-    c: usize,
-    k: usize,
-    j: u32,
-    v: f64,
-) -> usize
-    requires { Row.Room floats.old words.old f c k (Assembly.insert j v (Row.entries_at floats.old words.old f c k)) }
-    ensures { Row.Written floats.old words.old floats.new words.new f c result
-        (Assembly.insert j v (Row.entries_at floats.old words.old f c k)) }
-{
-    let p = position(words, c, k, j);
-    let a = f + p;
-    let b = c + p;
-    if stands(words, c, k, p, j) {
-        floats[a] = floats[a] + v;
-        return k;
+    // The entries of corner c of the mesh: nothing where its triangle is skipped.
+    fn add_corner(&mut self, mesh: &Elements, c: usize)
+        requires { IsBuilt mesh.now self.old × (c < length mesh.now.triangles.now) }
+        ensures same { SameRow self.old self.new }
+        ensures written { Writes self.old self.new (Entries.added mesh.now.tags.now mesh.now.flat mesh.now.vertices.now mesh.now.triangles.now c (entries_of self.old)) }
+    {
+        let q = mesh.triangle(c / 3);
+        if let Some(s) = mesh.stiff(q) {
+            let side = s.side(c % 3);
+            self.place_three(mesh, q, side);
+        }
     }
-    shift(floats, a, k - p);
-    shift_words(words, b, k - p);
-    floats[a] = v;
-    words[b] = j;
-    k + 1
-}
 
-// The same for the row that is built, where the column is free.
-fn place(
-    floats: &mut [f64],
-    words: &mut [u32],
-    n: usize,
-    t: usize,
-    at: Places,
-    k: usize,
-    j: u32,
-    v: f64,
-) -> usize
-    requires { Row.Building floats.old words.old n t at k × (j < n) }
-    ensures { Row.Written floats.old words.old floats.new words.new at.row at.rowcols result
-        (Row.placed (Row.tags_in words.old n at) j v (Row.row_in floats.old words.old at k)) }
-{
-    let row = at.row;
-    let rowcols = at.rowcols;
-    let q = at.tags + wide(j);
-    if words[q] == 0 {
-        return insert(floats, words, row, rowcols, k, j, v);
+    // The entries of the free vertex r: those of its corners, in rising order.
+    fn build(&mut self, mesh: &Elements, corners: Corners, r: usize)
+        requires { IsBuilt mesh.now self.old × (self.old.count ≡ 0) × AreLinked mesh.now corners × (r < length mesh.now.tags.now) }
+        ensures same { SameRow self.old self.new }
+        ensures written { Writes self.old self.new (Assembly.inserted mesh.now.tags.now r (pushes_of mesh.now) []) }
+    {
+        let mut c = corners.heads[r] as usize;
+        // A linked list in lent memory, along which no iterator of the library goes.
+        while 0 < c {
+            self.add_corner(mesh, c - 1);
+            c = corners.links[c - 1] as usize;
+        }
     }
-    k
-}
 
-// An entry for each corner of a triangle.
-fn place_three(
-    floats: &mut [f64],
-    words: &mut [u32],
-    n: usize,
-    t: usize,
-    at: Places,
-    k: usize,
-    q: Triangle,
-    s: Side,
-) -> usize
-    requires { Row.Building floats.old words.old n t at k × Within n q }
-    ensures { Row.Written floats.old words.old floats.new words.new at.row at.rowcols result
-        (Row.three_placed (Row.tags_in words.old n at) q s (Row.row_in floats.old words.old at k)) }
-{
-    let a = place(floats, words, n, t, at, k, q.i, s.i);
-    let b = place(floats, words, n, t, at, a, q.j, s.j);
-    place(floats, words, n, t, at, b, q.k, s.k)
-}
-
-// The entries of corner c of the mesh: nothing where its triangle is skipped.
-fn add_corner(
-    floats: &mut [f64],
-    words: &mut [u32],
-    n: usize,
-    t: usize,
-    at: Places,
-    flat: f64,
-    c: usize,
-    k: usize,
-) -> usize
-    requires { Row.Building floats.old words.old n t at k × (c < 3 * t) }
-    ensures { Row.Written floats.old words.old floats.new words.new at.row at.rowcols result
-        (Row.added (Row.tags_in words.old n at) flat (Row.vertices_in floats.old n at) (Row.corners_in words.old t at) c (Row.row_in floats.old words.old at k)) }
-{
-    let q = triangle_at(words, at.triangles, t, c / 3, n);
-    let s = stiff_at(floats, at.vertices, n, flat, q);
-    if s.skipped {
-        return k;
+    // The row of vertex r: a held one has the lone entry 1.
+    pub(crate) fn fill(&mut self, mesh: &Elements, corners: Corners, r: usize)
+        requires { IsBuilt mesh.now self.old × (self.old.count ≡ 0) × AreLinked mesh.now corners × (r < length mesh.now.tags.now) }
+        ensures same { SameRow self.old self.new }
+        ensures written { Writes self.old self.new (Assembly.row mesh.now.tags.now (pushes_of mesh.now) r) }
+    {
+        if mesh.tags[r] == 0 {
+            self.build(mesh, corners, r);
+            return;
+        }
+        self.values[0] = 1.0;
+        self.cols[0] = r as u32;
+        self.count = 1;
     }
-    let side = side_of(s, c % 3);
-    place_three(floats, words, n, t, at, k, q, side)
-}
 
-// The entries of the free vertex r: those of its corners, in rising order.
-fn build(
-    floats: &mut [f64],
-    words: &mut [u32],
-    n: usize,
-    t: usize,
-    at: Places,
-    flat: f64,
-    r: usize,
-) -> usize
-    requires { Row.Building floats.old words.old n t at 0 × Row.Linked words.old n t at × (r < n) }
-    ensures { Row.Written floats.old words.old floats.new words.new at.row at.rowcols result
-        (Assembly.inserted (Row.tags_in words.old n at) r (Assembly.pushes flat (Row.vertices_in floats.old n at) (Row.corners_in words.old t at)) []) }
-{
-    let heads = at.heads;
-    let links = at.links;
-    let h = heads + r;
-    let mut c = wide(words[h]);
-    let mut k = 0;
-    while 0 < c {
-        let d = c - 1;
-        k = add_corner(floats, words, n, t, at, flat, d, k);
-        let l = links + d;
-        c = wide(words[l]);
+    // The values and the columns of its entries.
+    pub(crate) fn entries(&self) -> (&[f64], &[u32])
+        requires { (self.now.count ≤ length self.now.values.now) × (self.now.count ≤ length self.now.cols.now) }
+        ensures values { result.0.now ≡ take self.now.count self.now.values.now }
+        ensures cols { result.1.now ≡ take self.now.count self.now.cols.now }
+    {
+        (&self.values[..self.count], &self.cols[..self.count])
     }
-    k
-}
 
-// The row of vertex r: a held one has the lone entry 1.
-pub fn fill_row(
-    floats: &mut [f64],
-    words: &mut [u32],
-    n: usize,
-    t: usize,
-    at: Places,
-    flat: f64,
-    r: usize,
-) -> usize
-    requires { Row.Building floats.old words.old n t at 0 × Row.Linked words.old n t at × (r < n) }
-    ensures { Row.Written floats.old words.old floats.new words.new at.row at.rowcols result
-        (Assembly.row (Row.tags_in words.old n at) (Assembly.pushes flat (Row.vertices_in floats.old n at) (Row.corners_in words.old t at)) r) }
-{
-    let row = at.row;
-    let rowcols = at.rowcols;
-    let q = at.tags + r;
-    if words[q] == 0 {
-        return build(floats, words, n, t, at, flat, r);
+    // Zeros in place of its entries.
+    pub(crate) fn clear(&mut self)
+        requires { (self.old.count ≤ length self.old.values.now) × (self.old.count ≤ length self.old.cols.now) }
+        ensures same { SameRow self.old self.new }
+        ensures values { self.new.values.now ≡ splice self.old.values.now 0 (replicate self.old.count plus_zero) }
+        ensures cols { self.new.cols.now ≡ splice self.old.cols.now 0 (replicate self.old.count 0) }
+        ensures count { self.new.count ≡ 0 }
+    {
+        let k = self.count;
+        self.values[0..k].fill(0.0);
+        self.cols[0..k].fill(0);
+        self.count = 0;
     }
-    floats[row] = 1.0;
-    words[rowcols] = r as u32;
-    1
 }

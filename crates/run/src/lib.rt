@@ -5,7 +5,7 @@ mod replaying;
 
 pub use advancing::advance;
 pub use calls::{back, mark, return_to_mark};
-pub use image::Answer;
+pub use image::Call;
 pub use opening::open;
 pub use replaying::{make, perform, replay};
 pub use showing::{field, gradients, length, norms, points};

@@ -1,27 +1,28 @@
 // A list of calls written as numbers, made one after the other from place 0.
-ghost use Rattle.std.specs.Prelude.{◌+◌, ◌*◌, ◌≤◌, length};
-ghost use Rattle.image.specs.Calls.{buffers, Does};
-ghost use Rattle.image.specs.Replay.{call_of, lent_at, Turned, Performs, Replayed};
+ghost use Rattle.std.specs.Prelude.{◌≡◌, ◌+◌, ◌*◌, ◌≤◌, length};
+ghost use Rattle.work.specs.Record.{no_run};
+ghost use Rattle.image.specs.Call.{machine_call};
+ghost use Rattle.image.specs.Calls.{buffers, answer_of, Does};
+ghost use Rattle.image.specs.Replay.{lent_at, Turned, Performs, Replayed};
 
-use image::Answer;
+use image::Call;
+use refusal::Refusal;
 use work::Run;
 
-// The call that two numbers name.
 pub fn perform(
     run: Run,
-    kind: u32,
-    k: u32,
+    call: Call,
     floats: &mut [f64],
     words: &[u32],
     path: &mut [f64],
-) -> Answer
-    ensures { Does (call_of kind k) run (buffers floats.old words.now path.old) result (buffers floats.new words.now path.new) }
+) -> Result<Run, Refusal>
+    ensures { Does (machine_call call) run (buffers floats.old words.now path.old) (answer_of run result) (buffers floats.new words.now path.new) }
 {
-    match kind {
-        0 => advancing::advance(run, k, floats, words, path),
-        1 => calls::back(run, k, floats, words, path),
-        2 => calls::mark(run, floats, words, path),
-        _ => calls::return_to_mark(run, floats, words, path),
+    match call {
+        Call::Advance(k) => advancing::advance(run, k, floats, words, path),
+        Call::Back(k) => calls::back(run, k, floats, words, path),
+        Call::Mark => calls::mark(run, floats, words, path),
+        Call::Return => calls::return_to_mark(run, floats, words, path),
     }
 }
 
@@ -33,9 +34,9 @@ fn turn(
     floats: &mut [f64],
     words: &[u32],
     path: &mut [f64],
-) -> Answer
+) -> Result<Run, Refusal>
     requires { 6 * i + 6 ≤ length calls.now }
-    ensures { Turned (lent_at calls.now i) run (buffers floats.old words.now path.old) result (buffers floats.new words.now path.new) }
+    ensures { Turned (lent_at calls.now i) run (buffers floats.old words.now path.old) (answer_of run result) (buffers floats.new words.now path.new) }
 {
     let at = 6 * i;
     let kind = calls[at];
@@ -43,7 +44,8 @@ fn turn(
     let f = gate::least(calls[at + 3] as usize, floats.len());
     let w = gate::least(calls[at + 4] as usize, words.len());
     let p = gate::least(calls[at + 5] as usize, path.len());
-    perform(run, kind, k, &mut floats[..f], &words[..w], &mut path[..p])
+    let call = Call::from((kind, k));
+    perform(run, call, &mut floats[..f], &words[..w], &mut path[..p])
 }
 
 // A list of calls, six numbers each: kind, k, one that no call takes yet, and how many floats, words and places of the path are lent. Each call's refusal goes to its place of said.
@@ -60,10 +62,13 @@ pub fn make(
     let mut held = run;
     let count = gate::least(said.len(), calls.len() / 6);
     for i in 0..count {
-        let a = turn(held, calls, i, floats, words, path);
-        said[i] = a.refused;
-        let next = a.run;
-        held = next;
+        match turn(held, calls, i, floats, words, path) {
+            Ok(next) => {
+                said[i] = 0;
+                held = next;
+            }
+            Err(refusal) => said[i] = refusal.number(),
+        }
     }
     held
 }
@@ -76,17 +81,10 @@ pub fn replay(
     floats: &mut [f64],
     words: &mut [u32],
     path: &mut [f64],
-) -> Answer
-    ensures { Replayed sheet.now calls.now said.old (buffers floats.old words.old path.old) result said.new (buffers floats.new words.new path.new) }
+) -> Result<Run, Refusal>
+    ensures { Replayed sheet.now calls.now said.old (buffers floats.old words.old path.old) (answer_of no_run result) said.new (buffers floats.new words.new path.new) }
 {
-    let opened = opening::open(sheet, floats, words, path);
-    if opened.refused != 0 {
-        return opened;
-    }
-    let run = opened.run;
+    let run = opening::open(sheet, floats, words, path)?;
     let last = make(run, calls, said, floats, words, path);
-    Answer {
-        refused: 0,
-        run: last,
-    }
+    Ok(last)
 }

@@ -1,33 +1,34 @@
 -- Laws of the way to another place that the proofs share. Assumes nothing.
+use Rattle.std.specs.Prelude.{Option}
 use mathlib.Core.Path.{◌≡◌, sym, ap, ◌∙◌, subst}
-use mathlib.Core.Logic.{inl}
-use mathlib.Core.List.{List, [], ◌∷◌}
+use mathlib.Core.List.{List, [], ◌∷◌, ◌++◌}
 use Prim.Native.Nat.{ℕ, ◌+◌, ◌-◌, ◌*◌, ◌≤◌, ◌<◌}
 use native.Mathlib.Omega.{arith}
-use borrow.Author.Tests.{eq-eqb, ne_eqb, le-leb, lt-leb, lt-ltb, le-ltb}
 use mathlib.Core.Bool.{Bool, true, false}
 use lib.Dec.{eqb}
-use lib.ListN.{length, set, take, replicate}
+use native.Mathlib.Nat.{zero-add}
+use lib.ListN.{length, length-append, set, take, drop, take-append-drop}
 use lib.Ieee.{Float}
-use Rattle.binary64.specs.Constants.{plus_zero}
 use Rattle.binary64.specs.Number.{pick}
 use Rattle.binary64.specs.Root.{root}
 use Rattle.stretch.specs.Stretch.{part, splice}
-use Rattle.stretch.specs.StretchLaws.{splice_nil, splice-one}
-use Rattle.sparse.specs.declared.Csr.{Csr}
-use Rattle.conjugate.specs.declared.Vectors.{Vectors}
-use Rattle.conjugate.specs.Placed.{InRow, Starts, Begun, placed, start_of}
+use Rattle.stretch.specs.StretchLaws.{length_part, part_front, part_rest, splice_nil, splice_is, splice_rest, splice-one}
+use Rattle.sparse.specs.Sparse.{Entry}
+use Rattle.sparse.specs.Stored.{matrix}
+use Rattle.sparse.specs.ProductLaws.{length-rows_of, matrix_kept}
+use Rattle.conjugate.specs.Solver.{begun}
+use Rattle.conjugate.specs.SolverLaws.{Long, begun_long}
+use Rattle.conjugate.specs.Placed.{InRow, Begun, placed, row_of, VectorsAt}
+use Rattle.conjugate.specs.PlacedLaws.{Adjoin, begun_in}
 use Rattle.model.specs.SolvedPlace.{solved_at}
 use Rattle.work.specs.declared.Plan.{Plan}
 use Rattle.work.specs.declared.Stand.{Stand}
 use Rattle.work.specs.declared.Kept.{Kept}
-use Rattle.work.specs.declared.Mark.{Mark}
 use Rattle.work.specs.declared.Origin.{Origin}
 use Rattle.work.specs.declared.Gives.{Gives}
 use Rattle.work.specs.declared.Step.{Step}
-use Rattle.work.specs.Layout.{at_x, at_kept, at_gradients, at_norms, matrix_at, vectors_at}
-use Rattle.work.specs.Memory.{start_by, Work, work, floats_given, path_given, goes, pathless, from_mark, origin_of, gradients_erased, norms_erased, path_erased, to_started, to_solved, to_kept, begun_again, to_zero, from_origin, seek, kept_floats}
-use Rattle.work.specs.Record.{first_end}
+use Rattle.work.specs.Layout.{at_x, at_norms, matrix_at, vectors_at}
+use Rattle.work.specs.Memory.{start_by, Work, work, floats_given, path_given, goes, pathless, origin_of, gradients_erased, norms_erased, path_erased, to_started, begun_again, to_zero, from_origin, seek}
 use Rattle.work.specs.Ready.{Ready, Standing, Roomy, Writable, MarkKeeping, Comes}
 use Rattle.work.specs.Seek.{Erasable, Again, Rewinds}
 use Rattle.work.specs.Kinds.{SetsOut}
@@ -35,13 +36,7 @@ use Rattle.work.specs.StartedLaws.{start_floats}
 use Rattle.work.specs.SeekLaws.{from_place, from_standing}
 use Rattle.work.proofs.Laws.{Delivered, pick_small, came, comes_to}
 
--- ---- from where a place is sought
-
-pub solved-two : (norms e : ℕ) → 1 ≤ norms → e ≡ 2 → norms ≡ solved_at norms e
-solved-two norms e h k = rw k (omega arith)
-
-pub solved_other : (norms e : ℕ) → (e ≡ 2 → ⊥) → norms - 1 ≡ solved_at norms e
-solved_other norms e n = rw (ne_eqb e 2 n) (omega arith)
+-- ---- the place at which solving ended
 
 solved-small : (norms e : ℕ) → solved_at norms e ≤ norms + 1
 solved-small norms e = go (eqb e 2)
@@ -50,53 +45,7 @@ solved-small norms e = go (eqb e 2)
     go true = omega arith
     go false = omega arith
 
-module _ (limit : ℕ) (mark : Mark) (target : ℕ) where
-  pub mark_none : mark ≡ Mark.Nothing → Origin.Zero ≡ from_mark limit mark target
-  mark_none e = rw e
-
-  pub mark_kept : (k : Kept) → mark ≡ Mark.At k → k.place ≤ target → k.norms ≤ limit → Origin.Kept k ≡ from_mark limit mark target
-  mark_kept k e p h = rw (e, le-leb k.place target p, le-leb k.norms limit h)
-
-  pub mark_ended : (k : Kept) → mark ≡ Mark.At k → k.place ≤ target → limit < k.norms → Origin.Zero ≡ from_mark limit mark target
-  mark_ended k e p h = rw (e, le-leb k.place target p, lt-leb k.norms limit h)
-
-  pub mark_later : (k : Kept) → mark ≡ Mark.At k → target < k.place → Origin.Zero ≡ from_mark limit mark target
-  mark_later k e p = rw (e, lt-leb k.place target p)
-
-  module _ (s : Stand) where
-    pub origin_here : s.place ≤ target → Origin.Here ≡ origin_of limit s mark target
-    unfolding origin_of
-    origin_here h = rw (le-leb s.place target h)
-
-    pub origin_started : (a : ℕ) → target < s.place → (s.end ≡ 0 → ⊥) → a ≡ solved_at s.norms s.end → a < target → Origin.Started ≡ origin_of limit s mark target
-    unfolding origin_of
-    origin_started a h n e k =
-        let l : solved_at s.norms s.end < target = rw e at k in
-        rw (lt-leb s.place target h, ne_eqb s.end 0 n, le-leb (solved_at s.norms s.end) target (omega arith), lt-ltb (solved_at s.norms s.end) target l)
-
-    pub origin_solved : (a : ℕ) → target < s.place → (s.end ≡ 0 → ⊥) → a ≡ solved_at s.norms s.end → target ≤ a → a ≤ target → Origin.Solved ≡ origin_of limit s mark target
-    unfolding origin_of
-    origin_solved a h n e b k =
-        let l : solved_at s.norms s.end ≤ target = rw e at k in
-        let m : target ≤ solved_at s.norms s.end = rw e at b in
-        rw (lt-leb s.place target h, ne_eqb s.end 0 n, le-leb (solved_at s.norms s.end) target l, le-ltb (solved_at s.norms s.end) target m)
-
-    pub origin_before : (a : ℕ) (o : Origin) → target < s.place → (s.end ≡ 0 → ⊥) → a ≡ solved_at s.norms s.end → target < a → o ≡ from_mark limit mark target → o ≡ origin_of limit s mark target
-    unfolding origin_of
-    origin_before a o h n e k m = let l : target < solved_at s.norms s.end = rw e at k in rw (lt-leb s.place target h, ne_eqb s.end 0 n, lt-leb (solved_at s.norms s.end) target l) m
-
-    pub origin_unsolved : (o : Origin) → target < s.place → s.end ≡ 0 → o ≡ from_mark limit mark target → o ≡ origin_of limit s mark target
-    unfolding origin_of
-    origin_unsolved o h z m = rw (lt-leb s.place target h, eq-eqb s.end 0 z) m
-
 -- ---- what is erased
-
-module _ (plan : Plan) (m m' : List Float) where
-  pub gradients_erased_lem : (k : ℕ) → k ≡ at_gradients plan.n plan.t → m' ≡ splice m k (replicate (2 * plan.t) plus_zero) → m' ≡ gradients_erased plan m
-  gradients_erased_lem k e h = h ∙ ap (λ (a : ℕ). splice m a (replicate (2 * plan.t) plus_zero)) e
-
-  pub norms_erased_lem : (s : Stand) (k a : ℕ) → a ≡ at_norms plan.n plan.t → m' ≡ splice m (a + k) (replicate (s.norms - k) plus_zero) → m' ≡ norms_erased plan s k m
-  norms_erased_lem s k a e h = h ∙ ap (λ (b : ℕ). splice m (b + k) (replicate (s.norms - k) plus_zero)) e
 
 pub no_norms_erased : (plan : Plan) (s : Stand) (k : ℕ) (m : List Float) → s.norms ≤ k → m ≡ norms_erased plan s k m
 no_norms_erased plan s k m h = let z : s.norms - k ≡ 0 = omega arith in rw z (sym (splice_nil m _))
@@ -104,11 +53,6 @@ no_norms_erased plan s k m h = let z : s.norms - k ≡ 0 = omega arith in rw z (
 -- ---- where the way starts
 
 module _ (plan : Plan) (s : Stand) (m p : List Float) where
-  pub solved_comes : (place : ℕ) (r : Stand) (m' p' : List Float) → m' ≡ gradients_erased plan m → p' ≡ path_erased s p → place ≡ solved_at s.norms s.end
-      → r ≡ pathless place s.rs s.norms s.end → Comes (to_solved plan (work m p s)) r m' p'
-  unfolding to_solved
-  solved_comes place r m' p' e h k q = record { stand = q ∙ ap (λ (a : ℕ). pathless a s.rs s.norms s.end) k; floats = e; path = h }
-
   pub started_comes : (words : List ℕ) (k place : ℕ) (r : Stand) (d : Step) (p₁ m' p' : List Float) → k ≡ at_norms plan.n plan.t → place ≡ solved_at s.norms s.end
       → r ≡ pathless place s.rs s.norms s.end → p₁ ≡ path_erased s p → SetsOut (start_by plan words (take k m) r plan.start) d → Delivered plan r d.gives m p₁ m' p'
       → Comes (to_started plan words (work m p s)) d.stand m' p'
@@ -125,40 +69,38 @@ module _ (plan : Plan) (s : Stand) (m p : List Float) where
         path = dl'.1 ∙ ap (path_given plan b d.gives) ep ∙ ap (λ (g : Gives). path_given plan b g (path_erased s p)) o'.gives;
       }
 
-  pub kept_comes : (k : Kept) (src at : ℕ) (m₁ m₂ m₃ : List Float) (r : Stand) (p' : List Float) → src ≡ at_kept plan.n plan.t plan.limit → at ≡ at_x plan.n plan.t
-      → m₁ ≡ splice m at (part m src (3 * plan.n)) → m₂ ≡ gradients_erased plan m₁ → m₃ ≡ norms_erased plan s k.norms m₂ → p' ≡ path_erased s p
-      → r ≡ pathless k.place k.rs k.norms 0 → Comes (to_kept plan k (work m p s)) r m₃ p'
-  unfolding to_kept
-  kept_comes k src at m₁ m₂ m₃ r p' es ea e₁ e₂ e₃ h q = record {
-    stand = q;
-    floats = e₃ ∙ ap (norms_erased plan s k.norms) (e₂ ∙ ap (gradients_erased plan) (e₁ ∙ rw (es, ea)));
-    path = h;
-  }
-
-pub kept_floats_lem : (plan : Plan) (m m' : List Float) (src at : ℕ) → src ≡ at_x plan.n plan.t → at ≡ at_kept plan.n plan.t plan.limit → m' ≡ splice m at (part m src (3 * plan.n)) → m' ≡ kept_floats plan m
-unfolding kept_floats
-kept_floats_lem plan m m' src at es ea e = e ∙ rw (es, ea)
-
 -- ---- place 0
 
--- the vectors lie behind the matrix and the right side
-pub again_starts : (plan : Plan) (words : List ℕ) (l b : ℕ) (m : Csr) (v : Vectors) → Ready plan words → at_norms plan.n plan.t ≤ l → b ≡ 2 * plan.n → m ≡ matrix_at plan.n plan.t
-    → v ≡ vectors_at plan.n plan.t → Starts words l m v b
-again_starts plan words l b m v r h eb em ev =
-    rw (em, ev, eb) (record {
-      laid = record { sound = r.sound; in_row = row; values_fit = omega arith; values_outside = inl (omega arith) };
-      reads = record { in_row = row; right_fits = omega arith; right_outside = inl (omega arith) };
-    })
-  where
-    row : InRow l (vectors_at plan.n plan.t) plan.n
-    row = record { r_after = omega arith; p_after = omega arith; product_after = omega arith; ends = omega arith }
-
-pub again_put : (plan : Plan) (words : List ℕ) (f f' : List Float) (b : ℕ) (m : Csr) (v : Vectors) (r : Float) → b ≡ 2 * plan.n → m ≡ matrix_at plan.n plan.t → v ≡ vectors_at plan.n plan.t
-    → Begun f f' m.rows v (start_of words f m b) r → Again plan words f r f'
+-- the vectors lie behind the matrix and the right side: b stands before them, vs from them on, and v are they, v' after
+pub again_behind : (plan : Plan) (words : List ℕ) (b vs : List Float) {v v' right : List Float} {mat : List (List Entry)} {r : Float} → Ready plan words → length b ≡ at_x plan.n plan.t → 4 * plan.n ≤ length vs
+    → mat ≡ matrix words b (matrix_at plan.n plan.t) → right ≡ part b (2 * plan.n) plan.n → v ≡ part vs 0 (4 * plan.n) → length v' ≡ length v → Begun v v' plan.n (row_of plan.n) (begun mat right) r
+    → Again plan words (b ++ vs) r (b ++ (v' ++ drop (4 * plan.n) vs))
 unfolding placed
-again_put plan words f f' b m v r eb em ev d =
-    let d' : Begun f f' plan.n (vectors_at plan.n plan.t) (start_of words f (matrix_at plan.n plan.t) (2 * plan.n)) r = rw (em, ev, eb) at d in
-    record { sum = d'.said; floats = d'.left }
+again_behind plan words b vs {v} {v'} {right} {mat} {r} ready lb h em er ev el d =
+    let n : ℕ = plan.n in
+    let t : ℕ = plan.t in
+    let s : List Float = b ++ vs in
+    let at : VectorsAt = vectors_at n t in
+    let ls : length s ≡ length b + length vs = length-append b vs in
+    let row : InRow (length s) at n = record { r_after = omega arith; p_after = omega arith; product_after = omega arith; ends = omega arith } in
+    let next : Adjoin at n = record { r_at = omega arith; p_at = omega arith; product_at = omega arith } in
+    let here : length b + 0 ≡ at_x n t = omega arith in
+    let v_is : v ≡ part s (at_x n t) (4 * n) = ev ∙ sym (part_rest b vs 0 (4 * n)) ∙ ap (λ (i : ℕ). part s i (4 * n)) here in
+    let lv : length v' ≡ 4 * n = el ∙ ap length ev ∙ length_part vs 0 (4 * n) (omega arith) in
+    let put : splice vs 0 v' ≡ v' ++ drop (4 * n) vs = splice_is vs v' 0 (4 * n) lv (omega arith) ∙ ap (λ (i : ℕ). v' ++ drop i vs) (zero-add (4 * n)) in
+    let left : b ++ (v' ++ drop (4 * n) vs) ≡ splice s (at_x n t) v' = ap (λ (w : List Float). b ++ w) (sym put) ∙ sym (splice_rest b vs 0 v') ∙ ap (λ (i : ℕ). splice s i v') here in
+    let kept : matrix words s (matrix_at n t) ≡ matrix words b (matrix_at n t) = matrix_kept words b s (matrix_at n t) ready.sound (part_front b vs (4 * n) (9 * t + n) (omega arith)) in
+    let right_is : part s (2 * n) n ≡ part b (2 * n) n = part_front b vs (2 * n) n (omega arith) in
+    let u : begun mat right ≡ begun_again plan words s = cc (em, er, kept, right_is) in
+    let many : length mat ≡ n = ap length em ∙ length-rows_of words b (matrix_at n t) n in
+    let long : Long n (begun mat right) = begun_long n mat right many (ap length er ∙ length_part b (2 * n) n (omega arith)) in
+    let all : Begun s (b ++ (v' ++ drop (4 * n) vs)) n at (begun_again plan words s) r = rw u at (begun_in s v n at row next v_is (begun mat right) long d left) in
+    record { sum = all.said; floats = all.left }
+
+pub again_whole : (plan : Plan) (words : List ℕ) (k : ℕ) (vs' : List Float) {m b vs : List Float} {r : Float} → b ≡ take k m → vs ≡ drop k m → Again plan words (b ++ vs) r (b ++ vs') → Again plan words m r (b ++ vs')
+again_whole plan words k vs' {m} {b} {vs} {r} eb ev d =
+    let e : b ++ vs ≡ m = rw (eb, ev) (take-append-drop k m) in
+    rw e at d
 
 module _ (plan : Plan) (words : List ℕ) (s : Stand) (m : List Float) where
   pub rewinds : (r : Float) (m₁ m₂ m₃ : List Float) (k : ℕ) (q : Float) → Again plan words m r m₁ → m₂ ≡ gradients_erased plan m₁ → m₃ ≡ norms_erased plan s 0 m₂ → k ≡ at_norms plan.n plan.t
@@ -169,15 +111,6 @@ module _ (plan : Plan) (words : List ℕ) (s : Stand) (m : List Float) where
     floats =
         rw (ek, eq, a.sum) (sym (splice-one m₃ (at_norms plan.n plan.t) (root (begun_again plan words m).rs))
         ∙ ap (λ (l : List Float). splice l (at_norms plan.n plan.t) (root (begun_again plan words m).rs ∷ [])) (e₃ ∙ ap (norms_erased plan s 0) (e₂ ∙ ap (gradients_erased plan) a.floats)));
-  }
-
-  pub zero_comes : (rs : Float) (m' p p' : List Float) (e : ℕ) (r : Stand) → Rewinds plan words s m rs m' → p' ≡ path_erased s p → e ≡ first_end plan.limit → r ≡ pathless 0 rs 1 e
-      → Comes (to_zero plan words (work m p s)) r m' p'
-  unfolding to_zero
-  zero_comes rs m' p p' e r w h ee q = record {
-    stand = q ∙ ap (λ (a : ℕ). pathless 0 rs 1 a) ee ∙ ap (λ (x : Float). pathless 0 x 1 (first_end plan.limit)) w.sum;
-    floats = w.floats;
-    path = h;
   }
 
 -- ---- the ways, and the passes after them
@@ -215,23 +148,7 @@ started_writable plan words s m p place r l k ready h er el ek =
       path_fit = omega (arith, h.roomy.path_fit);
     })
 
-module _ (plan : Plan) (words : List ℕ) (o : Origin) (w : Work) (s : Stand) (m p : List Float) where
-  pub from_here : o ≡ Origin.Here → s ≡ w.stand → m ≡ w.floats → p ≡ w.path → Comes (from_origin plan words o w) s m p
-  from_here e es em ep = rw e (record { stand = es; floats = em; path = ep })
-
-  pub from_started : o ≡ Origin.Started → Comes (to_started plan words w) s m p → Comes (from_origin plan words o w) s m p
-  from_started e c = rw e c
-
-  pub from-solved : o ≡ Origin.Solved → Comes (to_solved plan w) s m p → Comes (from_origin plan words o w) s m p
-  from-solved e c = rw e c
-
-  pub from_kept : (k : Kept) → o ≡ Origin.Kept k → Comes (to_kept plan k w) s m p → Comes (from_origin plan words o w) s m p
-  from_kept k e c = rw e c
-
-  pub from_zero : o ≡ Origin.Zero → Comes (to_zero plan words w) s m p → Comes (from_origin plan words o w) s m p
-  from_zero e c = rw e c
-
-module _ (plan : Plan) (words : List ℕ) (mark : Mark) (target : ℕ) (w : Work) (o : Origin) (s : Stand) (m p : List Float) where
+module _ (plan : Plan) (words : List ℕ) (mark : Option Kept) (target : ℕ) (w : Work) (o : Origin) (s : Stand) (m p : List Float) where
   origin_comes : o ≡ origin_of plan.limit w.stand mark target → Comes (from_origin plan words o w) s m p
       → Comes (from_origin plan words (origin_of plan.limit w.stand mark target) w) s m p
   origin_comes e c = comes_to (ap (λ (x : Origin). from_origin plan words x w) e) c

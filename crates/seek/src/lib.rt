@@ -1,15 +1,15 @@
 // The way to another place: from where it is sought, what stands there, and passes up to it.
 #![tactic(auto)]
 
-ghost use Rattle.std.specs.Prelude.{◌≡◌, ◌+◌, ◌*◌, ◌≤◌, length};
+ghost use Rattle.std.specs.Prelude.{◌≡◌, ◌++◌, ◌+◌, ◌*◌, ◌≤◌, length};
 ghost use Rattle.model.specs.SolvedPlace.{solved_at};
-ghost use Rattle.work.specs.Layout.{at_norms, at_kept};
+ghost use Rattle.work.specs.Layout.{at_x, at_norms, at_kept};
 ghost use Rattle.work.specs.Memory as Memory;
 ghost use Rattle.work.specs.Memory.{work, origin_of, from_mark, gradients_erased, norms_erased, path_erased, kept_floats};
 ghost use Rattle.work.specs.Ready.{Ready, Comes};
 ghost use Rattle.work.specs.Seek.{Erasable, Again, Rewinds, Seeks};
 
-use work::{Kept, Mark, Origin, Plan, Stand, layout, place};
+use work::{Kept, Origin, Plan, Stand, layout, place};
 
 // The place at which solving ended: each pass adds a norm to the first, but for the one that ends with 2.
 fn solved_at(norms: usize, end: usize) -> usize
@@ -20,10 +20,10 @@ fn solved_at(norms: usize, end: usize) -> usize
 }
 
 // The kept vectors serve where they are not past the target and their field had no end.
-fn from_mark(limit: usize, mark: Mark, target: usize) -> Origin
+fn from_mark(limit: usize, mark: Option<Kept>, target: usize) -> Origin
     ensures { result ≡ from_mark limit mark target }
 {
-    let Mark::At(k) = mark else {
+    let Some(k) = mark else {
         return Origin::Zero;
     };
     if k.place <= target {
@@ -35,7 +35,8 @@ fn from_mark(limit: usize, mark: Mark, target: usize) -> Origin
 }
 
 // On from here; a place after the start pass from there, and one at the field's end from there; else from the kept vectors; else from place 0.
-fn origin(limit: usize, stand: Stand, mark: Mark, target: usize) -> Origin
+#[tactic(auto, unfolding(work::specs::Memory::origin_of))]
+fn origin(limit: usize, stand: Stand, mark: Option<Kept>, target: usize) -> Origin
     requires { 1 ≤ stand.norms }
     ensures { result ≡ origin_of limit stand mark target }
 {
@@ -92,6 +93,7 @@ fn erase_norms(floats: &mut [f64], plan: Plan, stand: Stand, k: usize)
 }
 
 // Back to where the field ended.
+#[tactic(auto, unfolding(work::specs::Memory::to_solved))]
 fn to_solved(floats: &mut [f64], path: &mut [f64], plan: Plan, stand: Stand) -> Stand
     requires { Erasable plan stand floats.old path.old }
     ensures { Comes (Memory.to_solved plan (work floats.old path.old stand)) result floats.new path.new }
@@ -124,6 +126,7 @@ fn to_started(
 }
 
 // Back to the kept vectors, whose field had no end.
+#[tactic(auto, unfolding(work::specs::Memory::to_kept))]
 fn to_kept(floats: &mut [f64], path: &mut [f64], plan: Plan, stand: Stand, k: Kept) -> Stand
     requires { Erasable plan stand floats.old path.old }
     ensures { Comes (Memory.to_kept plan k (work floats.old path.old stand)) result floats.new path.new }
@@ -137,15 +140,23 @@ fn to_kept(floats: &mut [f64], path: &mut [f64], plan: Plan, stand: Stand, k: Ke
     place::pathless(k.place, k.rs, k.norms, 0)
 }
 
+// The vectors of place 0, which stand first in `behind`, by the matrix and the right side that stand before them; answers r·r.
+fn begin_behind(before: &[f64], words: &[u32], plan: Plan, behind: &mut [f64]) -> f64
+    requires { Ready plan words.now × (length before.now ≡ at_x plan.n plan.t) × (4 * plan.n ≤ length behind.old) }
+    ensures { Again plan words.now (before.now ++ behind.old) result (before.now ++ behind.new) }
+{
+    let n = plan.n;
+    let a = layout::matrix(before, words, n, plan.t);
+    conjugate::begin_in_row(&a, &before[2 * n..3 * n], &mut behind[..4 * n], n)
+}
+
 // The vectors of place 0; answers r·r.
 fn vectors_again(floats: &mut [f64], words: &[u32], plan: Plan) -> f64
     requires { Ready plan words.now × (at_norms plan.n plan.t ≤ length floats.old) }
     ensures { Again plan words.now floats.old result floats.new }
 {
-    let m = layout::matrix_at(plan.n, plan.t);
-    let at = layout::vectors_at(plan.n, plan.t);
-    let b = 2 * plan.n;
-    conjugate::begin(floats, words, m, at, b)
+    let (before, behind) = floats.split_at_mut(layout::at_x(plan.n, plan.t));
+    begin_behind(before, words, plan, behind)
 }
 
 // The floats of place 0; answers r·r.
@@ -162,6 +173,7 @@ fn rewind(floats: &mut [f64], words: &[u32], plan: Plan, stand: Stand) -> f64
 }
 
 // Back to place 0: the vectors are begun again.
+#[tactic(auto, unfolding(work::specs::Memory::to_zero))]
 fn to_zero(floats: &mut [f64], words: &[u32], path: &mut [f64], plan: Plan, stand: Stand) -> Stand
     requires { Ready plan words.now × Erasable plan stand floats.old path.old }
     ensures { Comes (Memory.to_zero plan words.now (work floats.old path.old stand)) result floats.new path.new }
@@ -199,7 +211,7 @@ pub fn seek(
     path: &mut [f64],
     plan: Plan,
     stand: Stand,
-    mark: Mark,
+    mark: Option<Kept>,
     target: usize,
 ) -> Stand
     requires { Seeks plan words.now stand mark target floats.old path.old }
@@ -212,6 +224,7 @@ pub fn seek(
 }
 
 // The mark's copy of the vectors.
+#[tactic(auto, unfolding(work::specs::Memory::kept_floats))]
 pub fn keep(floats: &mut [f64], plan: Plan)
     requires { (plan.n ≤ 4096) × (plan.t ≤ 8192) × (plan.limit ≤ 100000) × (at_kept plan.n plan.t plan.limit + 3 * plan.n ≤ length floats.old) }
     ensures { floats.new ≡ kept_floats plan floats.old }

@@ -16,16 +16,21 @@ use Rattle.format.specs.RefusalLaws.{then_second, pick_true, pick_false}
 use Rattle.format.specs.SettingLaws.{present_few}
 use Rattle.format.specs.SheetLaws.{Clean, clean}
 use Rattle.sheet.specs.declared.Header.{Header}
-use Rattle.sheet.specs.declared.Checked.{Checked}
-use Rattle.sheet.specs.declared.Written.{Written}
-use Rattle.sheet.specs.Answer.{checked_by}
-use Rattle.sheet.specs.Write.{write_refusal, written_by, buffer_by, Writes}
+use Rattle.refusal.specs.Refusal.{number_of}
+use Rattle.refusal.specs.declared.Refusal.{Refusal}
+use Rattle.format.specs.TriesLaws as tries
+use Rattle.sheet.specs.Answer.{Checked, Accepted, checked_by}
+use Rattle.sheet.specs.Answer as answer
+use Rattle.sheet.specs.Write.{Written, Bytes, Refused, write_refusal, written_by, buffer_by, Writes}
 
 -- ---- a sheet that is checked
 
-pub refused : (k : ℕ) {a : ℕ} (h : Header) → k ≡ a → (k ≡ 0 → ⊥) → Checked.Refused k ≡ checked_by a h
-refused zero h e z = absurd (z refl)
-refused (suc k) h e z = ap (λ (n : ℕ). checked_by n h) e
+pub refused : (e : Refusal) {a : ℕ} (h : Header) → number_of e ≡ a → answer.Refused (number_of e) ≡ checked_by a h
+refused e {a} h p = go (number_of e) (tries.refused e) ∙ ap (λ (n : ℕ). checked_by n h) p
+  where
+    go : (k : ℕ) → (k ≡ 0 → ⊥) → answer.Refused k ≡ checked_by k h
+    go zero z = absurd (z refl)
+    go (suc k) z = refl
 
 -- ---- a sheet that is written
 
@@ -37,10 +42,9 @@ pub record Small (c : Content) : Type 0 where
   pub tagged : length c.tags ≤ 4096
   pub settings : length (present c.settings) ≤ 6
 
--- k is what was found to refuse it
-pub small : (c : Content) (k : ℕ) → k ≡ refusal_of c → k ≡ 0 → Small c
-small c k e z =
-    let k : Clean c = clean c (sym e ∙ z) in
+pub small : (c : Content) → 0 ≡ refusal_of c → Small c
+small c e =
+    let k : Clean c = clean c (sym e) in
     let v : vertex_count c ≤ 4096 = k.vertices in
     let t : triangle_count c ≤ 8192 = k.triangles in
     record { pairs = omega (arith, k.pairs); triples = omega (arith, k.triples); edges = omega (arith, k.edges); tagged = omega (arith, k.tagged); settings = present_few c.settings }
@@ -51,19 +55,22 @@ by c out k e r last p q = record {
   left = q ∙ ap (λ (n : ℕ). buffer_by n (bytes_of c) out) (sym e);
 }
 
-pub write_refused : (c : Content) (out last : List ℕ) (k : ℕ) → k ≡ refusal_of c → (k ≡ 0 → ⊥) → last ≡ out → Writes c out (Written.Refused k) last
+pub write_refused : (c : Content) (out last : List ℕ) (e : Refusal) → number_of e ≡ refusal_of c → last ≡ out → Writes c out (Refused (number_of e)) last
 unfolding write_refusal
-write_refused c out last zero e z q = absurd (z refl)
-write_refused c out last (suc k) e z q = by c out (suc k) (ap (λ (n : ℕ). n then pick (leb (length (bytes_of c)) (length out)) 0 8) (sym e)) (Written.Refused (suc k)) last refl q
+write_refused c out last e p q = go (number_of e) p (tries.refused e)
+  where
+    go : (k : ℕ) → k ≡ refusal_of c → (k ≡ 0 → ⊥) → Writes c out (Refused k) last
+    go zero p z = absurd (z refl)
+    go (suc k) p z = by c out (suc k) (ap (λ (n : ℕ). n then pick (leb (length (bytes_of c)) (length out)) 0 8) (sym p)) (Refused (suc k)) last refl q
 
-pub write_short : (c : Content) (out last : List ℕ) (k : ℕ) → k ≡ refusal_of c → k ≡ 0 → length out < length (bytes_of c) → last ≡ out → Writes c out (Written.Refused 8) last
+pub write_short : (c : Content) (out last : List ℕ) → 0 ≡ refusal_of c → length out < length (bytes_of c) → last ≡ out → Writes c out (Refused 8) last
 unfolding write_refusal
-write_short c out last k e z h q = by c out 8 (then_second _ (sym e ∙ z) ∙ pick_false 0 8 (lt-leb (length (bytes_of c)) (length out) h)) (Written.Refused 8) last refl q
+write_short c out last e h q = by c out 8 (then_second _ (sym e) ∙ pick_false 0 8 (lt-leb (length (bytes_of c)) (length out) h)) (Refused 8) last refl q
 
-pub write_done : (c : Content) (out last : List ℕ) (k size : ℕ) → k ≡ refusal_of c → k ≡ 0 → size ≡ length (bytes_of c) → size ≤ length out → last ≡ placed out 0 (bytes_of c)
-    → Writes c out (Written.Bytes size) last
+pub write_done : (c : Content) (out last : List ℕ) (size : ℕ) → 0 ≡ refusal_of c → size ≡ length (bytes_of c) → size ≤ length out → last ≡ placed out 0 (bytes_of c)
+    → Writes c out (Bytes size) last
 unfolding write_refusal
-write_done c out last k size e z s h q =
+write_done c out last size e s h q =
     let l : length (bytes_of c) ≤ length out = omega arith in
-    by c out 0 (then_second _ (sym e ∙ z) ∙ pick_true 0 8 (le-leb (length (bytes_of c)) (length out) l)) (Written.Bytes size) last (ap (λ (n : ℕ). Written.Bytes n) s)
+    by c out 0 (then_second _ (sym e) ∙ pick_true 0 8 (le-leb (length (bytes_of c)) (length out) l)) (Bytes size) last (ap (λ (n : ℕ). Bytes n) s)
     (q ∙ placed-front out (bytes_of c) l)

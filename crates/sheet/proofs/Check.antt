@@ -11,14 +11,16 @@ use Rattle.format.specs.declared.Settings.{Settings}
 use Rattle.format.specs.Bytes.{number}
 use Rattle.format.specs.Content.{max_vertices, max_triangles, max_settings}
 use Rattle.format.specs.Refusal.{◌then◌, over, unlike, missing}
-use Rattle.format.specs.Sheet.{count, behind, from2, from3, from4, from5, leftover, items_in, item_setting, no_settings, gathered, content_of, vertices_fault, triangles_fault, neighbours_fault, tags_fault, settings_fault, fault_of, refused, decide, parse}
-use Rattle.format.specs.RefusalLaws.{Neither, neither, then_assoc, then_second, refused_first, decided_second, pick_true, pick_false}
+use Rattle.format.specs.Sheet.{count, behind, from2, from3, from4, from5, leftover, items_in, item_setting, no_settings, gathered, content_of, vertices_fault, triangles_fault, neighbours_fault, tags_fault, settings_fault, fault_of, decide, parse}
+use Rattle.format.specs.RefusalLaws.{Neither, neither, then_assoc, then_second, pick_true, pick_false}
 use Rattle.format.specs.SectionLaws.{Head, over-le, unlike-eq}
 use Rattle.format.specs.SheetLaws.{vertices_head, triangles_head, neighbours_head, tags_head, settings_head, vertex_count_lem, triangle_count_lem, length-behind, behind-drop}
 use Rattle.sheet.specs.declared.Header.{Header}
-use Rattle.sheet.specs.declared.Checked.{Checked}
-use Rattle.sections.specs.declared.Items.{Items}
-use Rattle.sheet.specs.Answer.{header_by, header_of, checked_of, checked_by, finished, Whole5}
+use Rattle.refusal.specs.Refusal.{number_of}
+use Rattle.refusal.specs.declared.Refusal.{Refusal}
+use Rattle.format.specs.TriesLaws.{fault_first, fault_second}
+use Rattle.sections.specs.Steps as steps
+use Rattle.sheet.specs.Answer.{Checked, Accepted, Refused, header_by, header_of, checked_of, checked_by, finished, Whole5}
 use Rattle.sections.specs.Steps.{mesh_fault, items_by, settings_read}
 use Rattle.sheet.proofs.Answers as answers
 
@@ -28,7 +30,7 @@ module _ (n t : ℕ) (st : Settings) (s : List ℕ) (m : ℕ) (e : m ≡ count s
   some_left : 4 + 9 * count s ≤ length s → (length s ≡ 4 + 9 * m → ⊥) → pick {A = ℕ} (eqb (length (behind 9 s)) 0) 0 1 ≡ 1
   some_left l h = pick_false 0 1 (ne_eqb (length (behind 9 s)) 0 (λ z. h (omega (arith, length-behind 9 s))))
 
-  pub finish_left : 4 + 9 * count s ≤ length s → (length s ≡ 4 + 9 * m → ⊥) → Checked.Refused 1 ≡ finished n t st s
+  pub finish_left : 4 + 9 * count s ≤ length s → (length s ≡ 4 + 9 * m → ⊥) → Refused 1 ≡ finished n t st s
   unfolding finished
   finish_left l h =
       sym (ap (λ (k : ℕ). checked_by (k then missing st) (header_by n t st)) (some_left l h))
@@ -38,13 +40,13 @@ module _ (n t : ℕ) (st : Settings) (s : List ℕ) (m : ℕ) (e : m ≡ count s
       let f : length (behind 9 s) ≡ 0 = omega (arith, length-behind 9 s) in
       pick_true 0 1 (eq-eqb _ _ f)
 
-  pub finish_missing : (k : ℕ) → length s ≡ 4 + 9 * m → k ≡ missing st → (k ≡ 0 → ⊥) → Checked.Refused k ≡ finished n t st s
+  pub finish_missing : (x : Refusal) → length s ≡ 4 + 9 * m → number_of x ≡ missing st → Refused (number_of x) ≡ finished n t st s
   unfolding finished
-  finish_missing k h p z = answers.refused k (header_by n t st) (p ∙ sym (then_second (missing st) (none_left h))) z
+  finish_missing x h p = answers.refused x (header_by n t st) (p ∙ sym (then_second (missing st) (none_left h)))
 
-  pub finish_whole : (k : ℕ) (r : Header) → length s ≡ 4 + 9 * m → k ≡ missing st → k ≡ 0 → r ≡ header_by n t st → Checked.Accepted r ≡ finished n t st s
+  pub finish_whole : (r : Header) → length s ≡ 4 + 9 * m → 0 ≡ missing st → r ≡ header_by n t st → Accepted r ≡ finished n t st s
   unfolding finished
-  finish_whole k r h p z q = sym (ap₂ checked_by (then_second (missing st) (none_left h) ∙ sym p ∙ z) (sym q))
+  finish_whole r h p q = sym (ap₂ checked_by (then_second (missing st) (none_left h) ∙ sym p) (sym q))
 
 -- ---- sections 1 to 4
 
@@ -125,50 +127,43 @@ checked_by_lem b = go (fault_of b)
     go zero = refl
     go (suc k) = refl
 
-pub check_mesh : (b : List ℕ) (k : ℕ) → k ≡ mesh_fault b → (k ≡ 0 → ⊥) → Checked.Refused k ≡ checked_of (parse b)
-check_mesh b k e z = answers.refused k (header_of (content_of b)) (refused_first k _ e z ∙ sym (fault_steps b)) z ∙ sym (checked_by_lem b)
+pub check_mesh : (b : List ℕ) (e : Refusal) → number_of e ≡ mesh_fault b → Refused (number_of e) ≡ checked_of (parse b)
+check_mesh b e p = answers.refused e (header_of (content_of b)) (fault_first e _ p ∙ sym (fault_steps b)) ∙ sym (checked_by_lem b)
 
 -- what section 5 answers
-pub record ItemsRefused (k a : ℕ) : Type 0 where
-  pub number : k ≡ a
-  pub some : k ≡ 0 → ⊥
-
-items_refused : (k a : ℕ) (st : Settings) → Items.Refused k ≡ items_by a st → ItemsRefused k a
-items_refused k zero st e = record { number = cc; some = λ z. (let y : ◌≡◌ {A = ℕ} 0 1 = cc in omega arith) }
-items_refused k (suc a) st e =
-    let f : k ≡ suc a = cc in
-    record { number = f; some = λ z. (let y : suc a ≡ 0 = sym f ∙ z in omega arith) }
+items_refused : (k a : ℕ) (st : Settings) → steps.Refused k ≡ items_by a st → k ≡ a
+items_refused k zero st e = cc
+items_refused k (suc a) st e = cc
 
 pub record ItemsRead (st : Settings) (a : ℕ) (st' : Settings) : Type 0 where
   pub clean : a ≡ 0
   pub settings : st ≡ st'
 
-items_read_lem : (a : ℕ) (st st' : Settings) → Items.Read st ≡ items_by a st' → ItemsRead st a st'
+items_read_lem : (a : ℕ) (st st' : Settings) → steps.Read st ≡ items_by a st' → ItemsRead st a st'
 items_read_lem zero st st' e = record { clean = refl; settings = cc }
 items_read_lem (suc a) st st' e = record { clean = cc; settings = cc }
 
-pub check_settings : (b : List ℕ) (m k : ℕ) → m ≡ mesh_fault b → m ≡ 0 → Items.Refused k ≡ settings_read (from5 b) → Checked.Refused k ≡ checked_of (parse b)
+pub check_settings : (b : List ℕ) (x : Refusal) → 0 ≡ mesh_fault b → steps.Refused (number_of x) ≡ settings_read (from5 b) → Refused (number_of x) ≡ checked_of (parse b)
 unfolding settings_read
-check_settings b m k e z p =
-    let r : ItemsRefused k (settings_fault (from5 b)) = items_refused k _ _ p in
-    answers.refused k (header_of (content_of b)) (decided_second m k e z (refused_first k _ r.number r.some) ∙ sym (fault_steps b)) r.some ∙ sym (checked_by_lem b)
+check_settings b x z p =
+    answers.refused x (header_of (content_of b)) (fault_second _ z (fault_first x _ (items_refused _ _ _ p)) ∙ sym (fault_steps b)) ∙ sym (checked_by_lem b)
 
-pub settings-whole : (s : List ℕ) (st : Settings) (n t : ℕ) → n ≤ 4096 → t ≤ 8192 → Items.Read st ≡ settings_read s → Whole5 n t s
+pub settings-whole : (s : List ℕ) (st : Settings) (n t : ℕ) → n ≤ 4096 → t ≤ 8192 → steps.Read st ≡ settings_read s → Whole5 n t s
 unfolding settings_read
 settings-whole s st n t hn ht p =
     let r : ItemsRead st (settings_fault s) (gathered no_settings (map item_setting (items_in s))) = items_read_lem _ _ _ p in
     let h : Head (over max_settings) 9 s = settings_head s r.clean in
     record { vertices = hn; triangles = ht; settings = over-le h.counted; fits = h.whole }
 
-pub check_last : (b : List ℕ) (m n t : ℕ) (st : Settings) (r : Checked) → m ≡ mesh_fault b → m ≡ 0 → n ≡ number 4 b → count (from2 b) ≡ t → Items.Read st ≡ settings_read (from5 b)
+pub check_last : (b : List ℕ) (n t : ℕ) (st : Settings) (r : Checked) → 0 ≡ mesh_fault b → n ≡ number 4 b → count (from2 b) ≡ t → steps.Read st ≡ settings_read (from5 b)
     → r ≡ finished n t st (from5 b) → r ≡ checked_of (parse b)
 unfolding settings_read finished content_of
-check_last b m n t st r e z en et p q =
+check_last b n t st r z en et p q =
     let s : ItemsRead st (settings_fault (from5 b)) (gathered no_settings (map item_setting (items_in (from5 b)))) = items_read_lem _ _ _ p in
     let c : st ≡ (content_of b).settings = s.settings in
     q
     ∙ ap (λ (x : Settings). checked_by (pick (eqb (length (leftover b)) 0) 0 1 then missing x) (header_by n t x)) c
     ∙ ap₂ checked_by
-    (decided_second m _ e z (decided_second 0 _ (sym s.clean) refl refl) ∙ sym (fault_steps b))
+    (fault_second _ z (fault_second _ (sym s.clean) refl) ∙ sym (fault_steps b))
     (ap₂ (λ (x y : ℕ). header_by x y (content_of b).settings) (en ∙ sym (vertex_count_lem b)) (sym et ∙ sym (triangle_count_lem b)))
     ∙ sym (checked_by_lem b)

@@ -1,15 +1,26 @@
 -- What the calls on a sheet answer, by the definitions of the format (document 01, sections Sheet and Length, writer, program). Definitions only.
 -- Assumes nothing.
-use Rattle.std.specs.Prelude.{ℕ, zero, suc, ◌+◌, ◌*◌, ◌≤◌, List, eqb, length}
+use Rattle.std.specs.Prelude.{ℕ, zero, suc, ◌+◌, ◌*◌, ◌≤◌, List, eqb, length, Result, Ok, Err}
 use Rattle.binary64.specs.Number.{pick}
 use Rattle.format.specs.declared.Settings.{Settings}
 use Rattle.format.specs.Content.{Content, vertex_count, triangle_count, max_vertices, max_triangles, max_settings}
 use Rattle.format.specs.Refusal.{◌then◌, missing}
 use Rattle.format.specs.Sheet.{count, behind, Parsed, accepted, refused}
 use Rattle.sheet.specs.declared.Header.{Header}
-use Rattle.sheet.specs.declared.Checked.{Checked}
+use Rattle.refusal.specs.Refusal.{number_of}
+use Rattle.refusal.specs.declared.Refusal.{Refusal}
 
 -- ---- a sheet that is checked
+
+-- the header of a sheet that is accepted, or the number of what refuses it
+pub data Checked : Type 0 where
+  Accepted : Header → Checked
+  Refused : ℕ → Checked
+
+-- what the check answers
+abbrev pub checked : Result Header Refusal → Checked
+checked (Ok h) = Accepted h
+checked (Err r) = Refused (number_of r)
 
 -- Where the items of sections 1 to 4 start: each section is a count of 4 bytes, and 16, 12, 4 and 1 bytes an item.
 abbrev pub header_by : ℕ → ℕ → Settings → Header
@@ -28,12 +39,12 @@ header_of c = header_by (vertex_count c) (triangle_count c) c.settings
 
 -- the number, or the header of the content
 abbrev pub checked_of : Parsed → Checked
-checked_of (accepted c) = Checked.Accepted (header_of c)
-checked_of (refused k) = Checked.Refused k
+checked_of (accepted c) = Accepted (header_of c)
+checked_of (refused k) = Refused k
 
 abbrev pub checked_by : ℕ → Header → Checked
-checked_by zero h = Checked.Accepted h
-checked_by (suc k) h = Checked.Refused (suc k)
+checked_by zero h = Accepted h
+checked_by (suc k) h = Refused (suc k)
 
 -- s is the sheet from section 5 on
 unfoldable pub finished : ℕ → ℕ → Settings → List ℕ → Checked

@@ -14,13 +14,13 @@ use Rattle.plane.specs.Plane.{point}
 use Rattle.format.specs.Bytes.{number, numbers}
 use Rattle.format.specs.Content.{Content, vertex_count, triangle_count, vertex_of, tag_of}
 use Rattle.format.specs.Refusal.{each, coordinate, coordinate_fault}
-use Rattle.format.specs.Sheet.{count, behind, from2, from3, from4, content_of, fault_of, Parsed, accepted, refused, decide, parse}
+use Rattle.format.specs.Sheet.{count, from2, from3, from4, content_of, fault_of, Parsed, accepted, refused, decide, parse}
 use Rattle.format.specs.BytesLaws.{length-numbers, get_or-numbers, number-drop}
 use Rattle.format.specs.RefusalLaws.{pick_true, pick_false, Proper, proper, each_at}
 use Rattle.format.specs.SectionLaws.{unlike-eq}
 use Rattle.format.specs.SheetLaws.{Faultless, faultless, vertex_count_lem, triangle_count_lem, length-behind, behind-drop, reads}
 use Rattle.sheet.specs.declared.Header.{Header}
-use Rattle.sheet.specs.declared.Checked.{Checked}
+use Rattle.sheet.specs.Answer.{Accepted, Refused}
 use Rattle.sheet.specs.Answer.{header_of, checked_of}
 use Rattle.sheet.specs.Items.{real_in, vertex_in, whole_in}
 
@@ -30,18 +30,18 @@ pub record IsAccepted (b : List ℕ) (h : Header) : Type 0 where
   pub parsed : parse b ≡ accepted (content_of b)
   pub header : h ≡ header_of (content_of b)
 
-pub is_accepted : (b : List ℕ) (h : Header) → Checked.Accepted h ≡ checked_of (parse b) → IsAccepted b h
+pub is_accepted : (b : List ℕ) (h : Header) → Accepted h ≡ checked_of (parse b) → IsAccepted b h
 unfolding parse
 is_accepted b h e = go (fault_of b) refl e
   where
-    go : (k : ℕ) → fault_of b ≡ k → Checked.Accepted h ≡ checked_of (decide k (content_of b)) → IsAccepted b h
+    go : (k : ℕ) → fault_of b ≡ k → Accepted h ≡ checked_of (decide k (content_of b)) → IsAccepted b h
     go zero p e = record { parsed = ap (λ (k : ℕ). decide k (content_of b)) p; header = cc }
     go (suc k) p e = record { parsed = cc; header = cc }
 
-pub is_refused : (b : List ℕ) (k : ℕ) → Checked.Refused k ≡ checked_of (parse b) → parse b ≡ refused k
+pub is_refused : (b : List ℕ) (k : ℕ) → Refused k ≡ checked_of (parse b) → parse b ≡ refused k
 is_refused b k e = go (parse b) e
   where
-    go : (p : Parsed) → Checked.Refused k ≡ checked_of p → p ≡ refused k
+    go : (p : Parsed) → Refused k ≡ checked_of p → p ≡ refused k
     go (accepted c) e = cc
     go (refused j) e = cc
 

@@ -1,20 +1,31 @@
 -- What writing a sheet answers and leaves (document 01, Length, writer, program): the reader's refusals, then 8 where the buffer is shorter than the sheet. Definitions only.
 -- Assumes nothing.
-use Rattle.std.specs.Prelude.{ℕ, zero, suc, ◌≡◌, List, ◌++◌, leb, length, drop}
+use Rattle.std.specs.Prelude.{ℕ, zero, suc, ◌≡◌, List, ◌++◌, leb, length, drop, Result, Ok, Err}
 use Rattle.binary64.specs.Number.{pick}
 use Rattle.format.specs.Content.{Content}
 use Rattle.format.specs.Refusal.{◌then◌, refusal_of}
 use Rattle.format.specs.Sheet.{bytes_of}
-use Rattle.sheet.specs.declared.Written.{Written}
-pub use Rattle.writing.specs.Write.{content_by}
+use Rattle.refusal.specs.Refusal.{number_of}
+use Rattle.refusal.specs.declared.Refusal.{Refusal}
+pub use Rattle.writing.specs.Write.{content_by, lent}
 
 -- what refuses a content with so much space
 unfoldable pub write_refusal : Content → ℕ → ℕ
 write_refusal c space = refusal_of c then pick (leb (length (bytes_of c)) space) 0 8
 
+-- how many bytes a sheet that was written has, or the number of what refused it
+pub data Written : Type 0 where
+  Bytes : ℕ → Written
+  Refused : ℕ → Written
+
+-- what the writer answers
+abbrev pub written : Result ℕ Refusal → Written
+written (Ok n) = Bytes n
+written (Err r) = Refused (number_of r)
+
 abbrev pub written_by : ℕ → ℕ → Written
-written_by zero n = Written.Bytes n
-written_by (suc k) n = Written.Refused (suc k)
+written_by zero n = Bytes n
+written_by (suc k) n = Refused (suc k)
 
 -- where nothing refuses, the front holds the sheet and the rest is as it was; else all is
 abbrev pub buffer_by : ℕ → List ℕ → List ℕ → List ℕ

@@ -19,11 +19,8 @@ fn real_at(part: &[u8], at: usize) -> f64
     requires { at + 8 ≤ length part.now }
     ensures { result ≡ real_in (number 8 (drop at part.now)) }
 {
-    let bits = format::bytes::u64_at(part, at);
-    if format::faults::nan_pattern(bits) {
-        return 0.0;
-    }
-    f64::from_bits(bits)
+    let bits = u64::from_le_bytes(*part[at..].first_chunk().unwrap());
+    format::faults::number_of(bits).unwrap_or(0.0)
 }
 
 // Vertex i, from section 1.
@@ -43,7 +40,7 @@ pub fn corner(part: &[u8], i: usize) -> u32
     ensures { result ≡ whole_in part.now i }
 {
     if i < part.len() / 4 {
-        return format::bytes::u32_at(part, 4 * i);
+        return format::bytes::first_u32(&part[4 * i..]);
     }
     0
 }
@@ -72,5 +69,5 @@ pub fn neighbour(part: &[u8], i: usize) -> u32
 pub fn tag(part: &[u8], i: usize) -> u8
     ensures { result ≡ get_or part.now i 0 }
 {
-    if i < part.len() { part[i] } else { 0 }
+    part.get(i).copied().unwrap_or(0)
 }

@@ -6,11 +6,15 @@ pub mod items;
 ghost use Rattle.std.specs.Prelude.{◌≡◌, ◌+◌, ◌*◌, ◌≤◌, ◌<◌};
 ghost use Rattle.format.specs.Content.{max_vertices, max_triangles};
 ghost use Rattle.format.specs.Sheet.{parse};
-ghost use Rattle.sheet.specs.Answer.{header_by, checked_of, finished, Whole5};
-ghost use Rattle.sheet.specs.Write.{content_by, Writes};
+ghost use Rattle.sheet.specs.Answer.{header_by, checked, checked_of, finished, Whole5};
+ghost use Rattle.sheet.specs.Write.{lent, written, Writes};
 
-use format::Settings;
-use sections::Items;
+use format::items::missing_fault;
+use format::{Content, Settings};
+use refusal::Refusal;
+use writing::present_count;
+use writing::putting::put_sheet;
+use writing::refusing::content_refusal;
 
 // What an accepted sheet has: n vertices, t triangles, where the items of sections 1 to 4 start, and its settings.
 #[derive(Clone, Copy)]
@@ -22,19 +26,6 @@ pub struct Header {
     pub neighbours: usize,
     pub tags: usize,
     pub settings: Settings,
-}
-
-#[derive(Clone, Copy)]
-pub enum Checked {
-    Accepted(Header),
-    Refused(u32),
-}
-
-// How many bytes a sheet that was written has.
-#[derive(Clone, Copy)]
-pub enum Written {
-    Bytes(usize),
-    Refused(u32),
 }
 
 fn header_of(n: usize, t: usize, settings: Settings) -> Header
@@ -53,67 +44,45 @@ fn header_of(n: usize, t: usize, settings: Settings) -> Header
 }
 
 // The last tests: nothing is left behind section 5, and no setting is missing.
-fn finish(s: &[u8], n: usize, t: usize, settings: Settings) -> Checked
+fn finish(s: &[u8], n: usize, t: usize, settings: Settings) -> Result<Header, Refusal>
     requires { Whole5 n t s.now }
-    ensures { result ≡ finished n t settings s.now }
+    ensures { checked result ≡ finished n t settings s.now }
 {
     let m = sections::count(s);
     if s.len() != 4 + 9 * m {
-        return Checked::Refused(1);
+        return Err(Refusal::Length);
     }
-    let missing = format::items::missing_fault(settings);
-    if missing != 0 {
-        return Checked::Refused(missing);
-    }
-    Checked::Accepted(header_of(n, t, settings))
+    missing_fault(settings)?;
+    Ok(header_of(n, t, settings))
 }
 
 // Whether s is a sheet.
-pub fn check_sheet(s: &[u8]) -> Checked
-    ensures { result ≡ checked_of (parse s.now) }
+pub fn check_sheet(s: &[u8]) -> Result<Header, Refusal>
+    ensures { checked result ≡ checked_of (parse s.now) }
 {
-    let mesh = sections::mesh_fault(s);
-    if mesh != 0 {
-        return Checked::Refused(mesh);
-    }
+    sections::mesh_fault(s)?;
     let n = sections::count(s);
-    let t = format::bytes::u32_at(s, 4 + 16 * n) as usize;
-    let at = 16 + 17 * n + 24 * t;
-    let s5 = &s[at..];
-    let read = sections::settings(s5);
-    match read {
-        Items::Refused(k) => Checked::Refused(k),
-        Items::Read(settings) => finish(s5, n, t, settings),
-    }
+    let t = sections::count(&s[4 + 16 * n..]);
+    let s5 = &s[16 + 17 * n + 24 * t..];
+    let settings = sections::settings(s5)?;
+    finish(s5, n, t, settings)
 }
 
-// The sheet of a content, from the front of out.
-pub fn write_sheet(
-    vertices: &[f64],
-    triangles: &[u32],
-    neighbours: &[u32],
-    tags: &[u8],
-    settings: Settings,
-    out: &mut [u8],
-) -> Written
-    ensures { Writes (content_by vertices.now triangles.now neighbours.now tags.now settings) out.old result out.new }
+// The sheet of a content, from the front of out, and how many bytes it has.
+pub fn write_sheet(content: &Content, out: &mut [u8]) -> Result<usize, Refusal>
+    ensures { Writes (lent content.now) out.old (written result) out.new }
 {
-    let refused = writing::refusing::content_refusal(
-        vertices, triangles, neighbours, tags, settings,
-    );
-    if refused != 0 {
-        return Written::Refused(refused);
-    }
-    let m = writing::putting::present_count(settings);
+    content_refusal(content)?;
+    let m = present_count(content.settings);
     let size = 20
-        + 8 * vertices.len()
-        + 4 * triangles.len()
-        + 4 * neighbours.len()
-        + tags.len()
+        + 8 * content.vertices.len()
+        + 4 * content.triangles.len()
+        + 4 * content.neighbours.len()
+        + content.tags.len()
         + 9 * m;
     if out.len() < size {
-        return Written::Refused(8);
+        return Err(Refusal::Space);
     }
-    writing::putting::put_sheet(vertices, triangles, neighbours, tags, settings, out);
-    Written::Bytes(size)
+    put_sheet(content, out);
+    Ok(size)
 }

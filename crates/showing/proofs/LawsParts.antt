@@ -1,11 +1,17 @@
 -- Laws of the parts of the floats that a run shows. Assumes nothing.
 use Prim.Native.Nat.{ℕ, ◌+◌, ◌-◌, ◌≤◌, ◌<◌}
-use mathlib.Core.Path.{◌≡◌}
+use mathlib.Core.Path.{◌≡◌, refl, sym, ◌∙◌}
+use mathlib.Core.Bool.{Bool, true, false, ◌&&◌}
+use Rattle.std.proofs.lemmas.Bool.{false≢true}
+use Rattle.std.proofs.lemmas.List.{take_rest}
 use mathlib.Core.List.{List, []}
 use native.Mathlib.Omega.{arith}
 use borrow.Author.Tests.{lt-leb, le-leb}
+use lib.Dec.{leb}
 use lib.ListN.{length, take, drop}
 use lib.Ieee.{Float}
+use Rattle.binary64.specs.Number.{pick}
+use Rattle.binary64.specs.NumberLaws.{both}
 use Rattle.stretch.specs.Stretch.{part}
 use Rattle.format.specs.Content.{max_vertices, max_triangles}
 use Rattle.work.specs.declared.Plan.{Plan}
@@ -15,17 +21,22 @@ pub within_none : (l : List Float) (at k : ℕ) → length l < at + k → [] ≡
 unfolding within
 within_none l at k h = rw (lt-leb (at + k) (length l) h)
 
-pub within_all : (l : List Float) (at k : ℕ) → at + k ≤ length l → take (at + k - at) (drop at l) ≡ within l at k
+pub within_all : (l : List Float) (at k : ℕ) (rest got : List Float) → rest ≡ take (length l - at) (drop at l) → length rest + at ≡ length l → k ≤ length rest → got ≡ take (k - 0) (drop 0 rest)
+    → got ≡ within l at k
 unfolding within part
-within_all l at k h =
-    let e : at + k - at ≡ k = omega arith in
-    rw (le-leb (at + k) (length l) h, e)
+within_all l at k rest got r e h g =
+    let f : rest ≡ drop at l = r ∙ take_rest l at in
+    let d : k - 0 ≡ k = omega arith in
+    g ∙ rw (le-leb (at + k) (length l) (omega arith), f, d)
 
-pub many_vertices : (plan : Plan) (l : List Float) → max_vertices < plan.n → [] ≡ counted plan l
-many_vertices plan l h = rw (lt-leb plan.n max_vertices h)
+module _ (plan : Plan) (l : List Float) where
+  pub uncounted : (leb plan.n max_vertices && leb plan.t max_triangles) ≡ false → [] ≡ counted plan l
+  uncounted e = go (leb plan.n max_vertices) (leb plan.t max_triangles) e
+    where
+      go : (n t : Bool) → (n && t) ≡ false → [] ≡ pick n (pick t l []) []
+      go true true e = absurd (false≢true (sym e))
+      go true false e = refl
+      go false t e = refl
 
-pub many_triangles : (plan : Plan) (l : List Float) → plan.n ≤ max_vertices → max_triangles < plan.t → [] ≡ counted plan l
-many_triangles plan l h k = rw (le-leb plan.n max_vertices h, lt-leb plan.t max_triangles k)
-
-pub counted-all : (plan : Plan) (l : List Float) → plan.n ≤ max_vertices → plan.t ≤ max_triangles → l ≡ counted plan l
-counted-all plan l h k = rw (le-leb plan.n max_vertices h, le-leb plan.t max_triangles k)
+  pub counted_all : (leb plan.n max_vertices && leb plan.t max_triangles) ≡ true → l ≡ counted plan l
+  counted_all e = let h = both (leb plan.n max_vertices) (leb plan.t max_triangles) e in rw (h.0, h.1)

@@ -1,56 +1,33 @@
 -- A turn of each scan. Assumes nothing.
-use mathlib.Core.Path.{◌≡◌, refl, sym}
-use mathlib.Core.Bool.{Bool, true, ◌&&◌, and-true, and_assoc}
-use mathlib.Core.List.{List, [], ◌∷◌, ◌++◌}
-use Prim.Native.Nat.{ℕ, suc, ◌+◌, ◌-◌, ◌<◌}
-use native.Mathlib.Nat.{add-zero}
-use native.Mathlib.Numerals.{add-one}
-use native.Mathlib.Omega.{arith}
-use lib.ListN.{length, get_or}
-use lib.Dec.{leb, ltb}
-use Rattle.stretch.specs.Stretch.{part}
-use Rattle.stretch.specs.StretchLaws.{part_suc, part_cons}
+use Rattle.std.specs.Prelude.{◌≡◌, ℕ, ◌+◌, ◌≤◌, ◌<◌, Bool, ◌&&◌, List, [], ◌∷◌, length, drop, get_or, leb, ltb}
+use Rattle.std.specs.List.{fold}
+use Rattle.std.proofs.Common.{sym, ap, ◌∙◌, add-one, arith, le-leb, drop-cons}
+use mathlib.Core.Bool.{and-true, and_assoc}
+use lib.ListN.{drop_of_length-le}
 use Rattle.sparse.specs.Scan.{all_below, rises_from, rises}
 
 -- ---- columns below a bound
 
-all_below_snoc : (n : ℕ) (ws : List ℕ) (w : ℕ) → all_below n (ws ++ (w ∷ [])) ≡ (all_below n ws && ltb w n)
+pub fold-below : (n : ℕ) (good : Bool) (ws : List ℕ) → fold (λ (g : Bool) (w : ℕ). g && ltb w n) good ws ≡ (good && all_below n ws)
 unfolding all_below
-all_below_snoc n [] w = and-true (ltb w n)
-all_below_snoc n (v ∷ ws) w = rw (all_below_snoc n ws w) (sym (and_assoc (ltb v n) (all_below n ws) (ltb w n)))
-
-pub below_none : (words : List ℕ) (at n : ℕ) → true ≡ all_below n (part words at 0)
-unfolding all_below part
-below_none words at n = refl
-
-pub below_step : (words : List ℕ) (at n j : ℕ) (good : Bool) → at + j < length words → good ≡ all_below n (part words at j)
-    → (good && ltb (get_or words (at + j) 0) n) ≡ all_below n (part words at (j + 1))
-below_step words at n j good h e = rw (e, add-one, part_suc words at j 0 h) (sym (all_below_snoc n (part words at j) (get_or words (at + j) 0)))
+fold-below n good [] = sym (and-true good)
+fold-below n good (w ∷ ws) = fold-below n (good && ltb w n) ws ∙ and_assoc good (ltb w n) (all_below n ws)
 
 -- ---- row starts
 
--- what the scan comes to from turn j on, where `good` is what it has found and `low` the start before
-unfoldable pub rises_on : List ℕ → ℕ → ℕ → ℕ → Bool → ℕ → ℕ → Bool
-rises_on words at k top good low j = good && rises_from top low (part words (at + j + 1) (k - j))
+pub rises_none : (top : ℕ) (ws : List ℕ) → rises_from top 0 ws ≡ rises top ws
+unfolding rises rises_from
+rises_none top [] = le-leb 0 top (omega arith)
+rises_none top (a ∷ bs) = rw (le-leb 0 a (omega arith))
 
-pub rises_none : (words : List ℕ) (at k top : ℕ) → at < length words → rises top (part words at (k + 1)) ≡ rises_on words at k top true (get_or words at 0) 0
-unfolding rises rises_on
-rises_none words at k top h =
-    let d : k - 0 ≡ k = omega arith in
-    rw (add-one k, part_cons words at k 0 h, add-zero, add-one at, d)
+-- what is found so far, with what is left to see from the start before on
+pub rises_step : (ws : List ℕ) (top i low : ℕ) (good all : Bool) → i < length ws → (good && rises_from top low (drop i ws)) ≡ all
+    → ((good && leb low (get_or ws i 0)) && rises_from top (get_or ws i 0) (drop (i + 1) ws)) ≡ all
+unfolding rises_from
+rises_step ws top i low good all h e =
+    and_assoc good (leb low (get_or ws i 0)) (rises_from top (get_or ws i 0) (drop (i + 1) ws))
+    ∙ rw (add-one i) (sym (ap (λ (l : List ℕ). good && rises_from top low l) (drop-cons ws i 0 h)) ∙ e)
 
-pub rises_step : (words : List ℕ) (at k top j low : ℕ) (good all : Bool) → j < k → at + k < length words → all ≡ rises_on words at k top good low j
-    → all ≡ rises_on words at k top (good && leb low (get_or words (at + j + 1) 0)) (get_or words (at + j + 1) 0) (j + 1)
-unfolding rises_on rises_from
-rises_step words at k top j low good all h f e =
-    let i : ℕ = at + j + 1 in
-    let next : ℕ = get_or words i 0 in
-    let left : ℕ = k - (j + 1) in
-    let d : k - j ≡ suc left = omega arith in
-    let s : at + (j + 1) + 1 ≡ suc i = omega arith in
-    let b : i < length words = omega arith in
-    rw (e, d, part_cons words i left 0 b, s) (sym (and_assoc good (leb low next) (rises_from top next (part words (suc i) left))))
-
-pub rises_done : (words : List ℕ) (at k top j low : ℕ) (good all : Bool) → j ≡ k → all ≡ rises_on words at k top good low j → (good && leb low top) ≡ all
-unfolding rises_on rises_from part
-rises_done words at k top j low good all h e = let d : k - j ≡ 0 = omega arith in rw (e, d)
+pub rises_done : (ws : List ℕ) (top i low : ℕ) (good all : Bool) → length ws ≤ i → (good && rises_from top low (drop i ws)) ≡ all → (good && leb low top) ≡ all
+unfolding rises_from
+rises_done ws top i low good all h e = sym (ap (λ (l : List ℕ). good && rises_from top low l) (drop_of_length-le ws {i = i} h)) ∙ e

@@ -1,2 +1,3 @@
 pub mod LawsScan
+pub mod LawsRow
 pub mod LawsProduct

@@ -5,8 +5,7 @@ use native.Mathlib.Omega.{arith}
 use Rattle.binary64.specs.NumberLaws.{both}
 use Rattle.stretch.specs.Stretch.{part}
 use Rattle.stretch.specs.StretchLaws.{part_cons, get_d_part, length_part}
-use Rattle.sparse.specs.declared.Csr.{Csr}
-use Rattle.sparse.specs.Stored.{start, end, Rising, Below, Sound}
+use Rattle.sparse.specs.Stored.{CsrAt, start, end, Rising, Below, Sound}
 use Rattle.sparse.specs.Scan.{all_below, rises_from, rises}
 
 -- ---- columns below a bound
@@ -56,7 +55,7 @@ unfolding rises_from
 rises_from-all top a [] f e = le-leb a top e
 rises_from-all top a (b ∷ bs) f e = rw (le-leb a b (f 0 (omega arith))) (rises_from-all top b bs (λ i h. f (suc i) (omega arith)) e)
 
-module _ (words : List ℕ) (m : Csr) (k : ℕ) (h : m.starts + k < length words) where
+module _ (words : List ℕ) (m : CsrAt) (k : ℕ) (h : m.starts + k < length words) where
   first_and_others : part words m.starts (k + 1) ≡ get_or words m.starts 0 ∷ part words (suc m.starts) k
   first_and_others = rw add-one (part_cons words m.starts k 0 (omega arith))
 
@@ -95,7 +94,7 @@ module _ (words : List ℕ) (m : Csr) (k : ℕ) (h : m.starts + k < length words
       omega arith)
       (rw (l, start_is k (omega arith)) e))
 
-pub sound_of : (words : List ℕ) (m : Csr) → m.starts + m.rows < length words → m.cols + m.count ≤ length words
+pub sound_of : (words : List ℕ) (m : CsrAt) → m.starts + m.rows < length words → m.cols + m.count ≤ length words
     → rises m.count (part words m.starts (m.rows + 1)) ≡ true → all_below m.rows (part words m.cols m.count) ≡ true → Sound words m
 sound_of words m s c r b =
     record { starts_fit = s; columns_fit = c; rising = rising_of words m m.rows s r; below = below_of words m.cols m.rows m.count c b }

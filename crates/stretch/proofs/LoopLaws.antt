@@ -1,10 +1,12 @@
--- A loop that goes up and writes one stretch of a buffer, for any type of elements: before its first turn, and a turn. s is the buffer at entry, l as it is now.
+-- A loop that goes up and writes one stretch of a buffer, for any type of elements: before its first turn, and a turn; and a stretch that the library replaces. s is the buffer at entry, l as it is now.
 -- Assumes nothing.
-use Rattle.std.specs.Prelude.{◌≡◌, List, [], ◌∷◌, ◌++◌, ℕ, ◌+◌, ◌<◌, length, get_or, set, replicate}
-use Rattle.std.proofs.Common.{sym, ap, ◌∙◌, add-one, arith}
+use Rattle.std.specs.Prelude.{◌≡◌, List, [], ◌∷◌, ◌++◌, ℕ, ◌+◌, ◌-◌, ◌≤◌, ◌<◌, length, take, drop, get_or, set, replicate}
+use lib.Seq.{paste}
+use Rattle.std.proofs.Common.{sym, ap, ◌∙◌, add-one, append_assoc, arith}
 use Rattle.std.proofs.lemmas.List.{length-replicate, replicate-append-replicate}
+use Rattle.std.proofs.Math.Seq.{drop-drop}
 use Rattle.stretch.specs.Stretch.{part, splice, Copies}
-use Rattle.stretch.specs.StretchLaws.{length_part, part_zero, part_suc, splice_nil, splice_snoc, get_or-splice-ahead}
+use Rattle.stretch.specs.StretchLaws.{length_part, part_zero, part_suc, splice_nil, splice_snoc, splice_is, splice_all, get_or-splice-ahead}
 
 module _ {ℓ} {A : Type ℓ} where
   -- any such loop: `new` is what it has written
@@ -31,3 +33,27 @@ module _ {ℓ} {A : Type ℓ} where
       let g : get_or l (src + i) d ≡ get_or s (src + i) d =
       ap (λ (r : List A). get_or r (src + i) d) p ∙ get_or-splice-ahead s at (part s src i) src n i d e h c.read in
       rw (g, add-one, part_suc s src i d) (write_step s l at i (part s src i) (get_or s (src + i) d) e p)
+
+  -- ---- a stretch that the library replaces
+
+  -- what stands before a stretch, the stretch as it is replaced, and what stands after it
+  pub replaced_is : (s : List A) (at n : ℕ) (new : List A) → length new ≡ n → at + n ≤ length s → (take at s ++ new) ++ drop (at + n) s ≡ splice s at new
+  replaced_is s at n new e h = append_assoc (take at s) new (drop (at + n) s) ∙ sym (splice_is s new at n e h)
+
+  -- the elements from src up to `end`, as std's `copy_within` leaves them from `at` on
+  pub pasted_is : (s : List A) (src end at n : ℕ) → end ≡ src + n → end ≤ length s → at + n ≤ length s → paste s at (drop src s) (end - src) ≡ splice s at (part s src n)
+  unfolding part
+  pasted_is s src end at n e h k =
+      let d : end - src ≡ n = omega arith in
+      rw d (replaced_is s at n (part s src n) (length_part s src n (omega arith)) k)
+
+  -- a stretch up to `end`, all of whose k elements were written one after the other
+  pub filled_is : (s p : List A) (at end n k : ℕ) (v : A) → end ≡ at + n → end ≤ length s → k ≡ n → p ≡ splice (take (end - at) (drop at s)) 0 (replicate k v)
+      → take at s ++ (p ++ drop (end - at) (drop at s)) ≡ splice s at (replicate n v)
+  unfolding part
+  filled_is s p at end n k v d h e q =
+      let m : end - at ≡ n = omega arith in
+      let long : length (part s at n) ≡ n = length_part s at n (omega arith) in
+      let w : p ≡ replicate n v =
+      q ∙ ap (λ (j : ℕ). splice (take j (drop at s)) 0 (replicate k v)) m ∙ ap (λ (j : ℕ). splice (part s at n) 0 (replicate j v)) e ∙ splice_all (part s at n) (replicate n v) (length-replicate n v ∙ sym long) in
+      rw (w, m, drop-drop) (sym (splice_is s (replicate n v) at n (length-replicate n v) (omega arith)))

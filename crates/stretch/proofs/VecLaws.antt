@@ -5,6 +5,7 @@ use Rattle.std.proofs.Math.Path.{refl, sym, ap}
 use Rattle.std.proofs.Common.{◌∙◌, add-one, arith}
 use mathlib.Core.List.{List, [], ◌∷◌, ◌++◌, zip_with}
 use Prim.Native.Nat.{ℕ, suc, ◌+◌, ◌≤◌, ◌<◌}
+use Rattle.std.specs.List.{fold, zip}
 use Rattle.std.specs.Float.{nan}
 use Rattle.binary64.specs.Arith.{◌⊕◌, ◌⊗◌}
 use Rattle.binary64.specs.Constants.{plus_zero}
@@ -25,6 +26,17 @@ dot_from_snoc z (x ∷ us) (y ∷ vs) u v e = dot_from_snoc (z ⊕ x ⊗ y) us v
 pub dot_snoc : (us vs : List Float) (u v : Float) → length us ≡ length vs → dot (us ++ (u ∷ [])) (vs ++ (v ∷ [])) ≡ dot us vs ⊕ u ⊗ v
 unfolding dot
 dot_snoc us vs u v e = dot_from_snoc plus_zero us vs u v e
+
+-- a fold over the pairs of two lists
+fold_from : (z : Float) (us vs : List Float) → fold (λ (s : Float) (p : Float × Float). s ⊕ p.0 ⊗ p.1) z (zip us vs) ≡ dot_from z us vs
+unfolding dot_from
+fold_from z [] vs = refl
+fold_from z (u ∷ us) [] = refl
+fold_from z (u ∷ us) (v ∷ vs) = fold_from (z ⊕ u ⊗ v) us vs
+
+pub fold-zip : (us vs : List Float) → fold (λ (s : Float) (p : Float × Float). s ⊕ p.0 ⊗ p.1) plus_zero (zip us vs) ≡ dot us vs
+unfolding dot
+fold-zip us vs = fold_from plus_zero us vs
 
 -- a loop that sums the products of the stretch of s from a and that of t from b
 pub dot_none : (s t : List Float) (a b : ℕ) → plus_zero ≡ dot (part s a 0) (part t b 0)

@@ -5,7 +5,7 @@ use Rattle.std.specs.Prelude.{◌≡◌, ◌⊎◌, get_or, set, replicate}
 use Rattle.std.proofs.Math.Path.{refl, sym, ap}
 use Rattle.std.proofs.Common.{◌∙◌, inl, inr, ⊎_elim, add-zero, length-take, take-suc, drop-cons, get_or-take, get_or-drop, take-add}
 use mathlib.Core.List.{List, [], ◌∷◌, ◌++◌}
-use Prim.Native.Nat.{ℕ, zero, suc, ◌+◌, ◌≤◌, ◌<◌}
+use Prim.Native.Nat.{ℕ, zero, suc, ◌+◌, ◌-◌, ◌≤◌, ◌<◌}
 use Rattle.std.proofs.Math.Nat.{zero-add, suc-add}
 use native.Mathlib.Omega.{arith}
 use Rattle.std.proofs.Math.ListN.{length, take, drop, length-drop, take-append-drop}
@@ -37,6 +37,11 @@ module _ {ℓ} {A : Type ℓ} where
   pub part_take : (l : List A) (n : ℕ) → part l 0 n ≡ take n l
   unfolding part
   part_take l n = refl
+
+  -- what `&l[at..end]` lends
+  pub part_lent : (l : List A) (at end n : ℕ) → end ≡ at + n → take (end - at) (drop at l) ≡ part l at n
+  unfolding part
+  part_lent l at end n h = let e : end - at ≡ n = omega arith in rw e
 
   pub get_d_part : (l : List A) (at n i : ℕ) (d : A) → i < n → get_or (part l at n) i d ≡ get_or l (at + i) d
   unfolding part

@@ -1,6 +1,7 @@
--- What a function that puts text into a lent buffer does, and a text of which a part is still to be put. Definitions only. Assumes nothing.
+-- What a function that puts text into lent bytes does, and a text of which a part is still to be put. Definitions only. Assumes nothing.
 use Rattle.std.specs.Prelude.{◌≡◌, List, ℕ, ◌+◌, ◌≤◌, length, take}
 use Rattle.stretch.specs.Stretch.{splice}
+use Rattle.text.specs.declared.raw.Output.{Output}
 
 -- The text stands from `at` on, and nothing else is changed; next is the place behind it. s is the buffer before, l after.
 pub record Puts (s : List ℕ) (at : ℕ) (text : List ℕ) (next : ℕ) (l : List ℕ) : Type 0 where
@@ -8,14 +9,20 @@ pub record Puts (s : List ℕ) (at : ℕ) (text : List ℕ) (next : ℕ) (l : Li
   pub goes : next ≡ at + length text
   pub long : length l ≡ length s
 
--- Putting the rest from `next` on into l, as it is now, puts the text from `at` on into s, as it was.
-pub record Left (s : List ℕ) (at : ℕ) (text : List ℕ) (l : List ℕ) (next : ℕ) (rest : List ℕ) : Type 0 where
-  pub is : splice l next rest ≡ splice s at text
-  pub goes : next + length rest ≡ at + length text
-  pub long : length l ≡ length s
-
 -- The same of a whole text, with what lending the bytes before `next` asks.
 pub record Printed (s : List ℕ) (at : ℕ) (text : List ℕ) (next : ℕ) (l : List ℕ) : Type 0 where
   pub puts : Puts s at text next l
   pub within : next ≤ length l
   pub front : next ≡ length (take next l)
+
+-- The text is put behind what stands in the output, in the same lent bytes.
+pub record Adds (old new : Output) (text : List ℕ) : Type 0 where
+  pub same : new.out.ghost_name ≡ old.out.ghost_name
+  pub put : Puts old.out.now old.len text new.len new.out.now
+
+-- Putting the rest into the output, as it is now, puts the text into the old one.
+pub record Left (old : Output) (text : List ℕ) (now : Output) (rest : List ℕ) : Type 0 where
+  pub same : now.out.ghost_name ≡ old.out.ghost_name
+  pub is : splice now.out.now now.len rest ≡ splice old.out.now old.len text
+  pub goes : now.len + length rest ≡ old.len + length text
+  pub long : length now.out.now ≡ length old.out.now

@@ -1,59 +1,68 @@
 -- Laws of putting text piece by piece: s is the buffer as it was, l as it is now. Assumes nothing.
-use Rattle.std.specs.Prelude.{◌≡◌, refl, List, [], ◌∷◌, ◌++◌, ℕ, ◌+◌, ◌≤◌, ◌<◌, length, take, get_or, set}
-use Rattle.std.proofs.Common.{sym, ap, ◌∙◌, add-zero, add-one, arith, length-append, take-suc, take_all, length-take-le}
+use Rattle.std.specs.Prelude.{◌≡◌, refl, List, [], ◌∷◌, ◌++◌, ℕ, ◌+◌, ◌-◌, ◌≤◌, length, set}
+use Rattle.std.proofs.Common.{sym, ap, ◌∙◌, add-zero, arith, length-append, length-take-le}
+use Rattle.std.proofs.lemmas.Slice.{put_mid-paste}
+use Rattle.std.proofs.lemmas.List.Edits.{paste_all}
+use borrow.Rule.Slice.PartMut.{put_mid}
 use Rattle.stretch.specs.Stretch.{splice}
-use Rattle.stretch.specs.StretchLaws.{length-splice, splice_nil, splice-one, splice-append}
-use Rattle.stretch.proofs.LoopLaws.{write_step}
-use Rattle.text.specs.Put.{Puts, Left, Printed}
+use Rattle.stretch.specs.StretchLaws.{length-splice, splice_nil, splice-one, splice-append, splice_is}
+use Rattle.text.specs.declared.raw.Output.{Output}
+use Rattle.text.specs.Put.{Puts, Printed, Adds, Left}
 
 pub puts : {s l : List ℕ} {at next : ℕ} {text : List ℕ} → l ≡ splice s at text → next ≡ at + length text → Puts s at text next l
 puts {s} {l} {at} {next} {text} e g = record { is = e; goes = g; long = ap length e ∙ length-splice s at text }
 
-pub printed : {s l : List ℕ} {at next : ℕ} {text : List ℕ} → Puts s at text next l → at + length text ≤ length s → Printed s at text next l
-printed {s} {l} {at} {next} {text} p h =
-    let w : next ≤ length l = omega (arith, p.goes, p.long) in
-    record { puts = p; within = w; front = sym (length-take-le next l w) }
+pub printed : {s l m : List ℕ} {at next : ℕ} {text : List ℕ} → Puts s at text next m → l ≡ m → at + length text ≤ length s → Printed s at text next l
+printed {s} {l} {m} {at} {next} {text} p e h =
+    let w : next ≤ length l = rw e (omega (arith, p.goes, p.long)) in
+    record { puts = record { is = e ∙ p.is; goes = p.goes; long = ap length e ∙ p.long }; within = w; front = sym (length-take-le next l w) }
+
+-- a part that the library writes, as a stretch
+pub put_is : (l new part : List ℕ) (a b k : ℕ) → new ≡ part → length part ≡ k → b ≡ a + k → b ≤ length l → put_mid a (b - a) l new ≡ splice l a part
+put_is l new part a b k i e s h =
+    let m : k ≡ b - a = omega arith in
+    put_mid-paste a (b - a) l new part k i m (sym e) ∙ paste_all l a part k (sym e) ∙ sym (splice_is l part a k e (omega arith))
 
 -- ---- what is left
 
 -- all of it
-pub left-all : {text : List ℕ} (s : List ℕ) (at : ℕ) (rest : List ℕ) → text ≡ rest → Left s at text s at rest
-left-all {text} s at rest e = record { is = ap (splice s at) (sym e); goes = ap (λ (r : List ℕ). at + length r) (sym e); long = refl }
+pub left-all : {text : List ℕ} (s : Output) (rest : List ℕ) → text ≡ rest → Left s text s rest
+left-all {text} s rest e = record { same = refl; is = ap (splice s.out.now s.len) (sym e); goes = ap (λ (r : List ℕ). s.len + length r) (sym e); long = refl }
 
 -- in other words
-pub left_as : {s l text rest : List ℕ} {at next : ℕ} (other : List ℕ) → Left s at text l next rest → rest ≡ other → Left s at text l next other
-left_as {s} {l} {text} {rest} {at} {next} other p e = record {
-  is = ap (splice l next) (sym e) ∙ p.is;
-  goes = ap (λ (r : List ℕ). next + length r) (sym e) ∙ p.goes;
+pub left_as : {s l : Output} {text rest : List ℕ} (other : List ℕ) → Left s text l rest → rest ≡ other → Left s text l other
+left_as {s} {l} {text} {rest} other p e = record {
+  same = p.same;
+  is = ap (splice l.out.now l.len) (sym e) ∙ p.is;
+  goes = ap (λ (r : List ℕ). l.len + length r) (sym e) ∙ p.goes;
   long = p.long;
 }
 
 -- a piece is put
-pub left-more : {s l m text a : List ℕ} {at next then : ℕ} (b : List ℕ) → Puts l next a then m → Left s at text l next (a ++ b) → Left s at text m then b
-left-more {s} {l} {m} {text} {a} {at} {next} {then} b q p = record {
-  is = ap (λ (z : List ℕ). splice z then b) q.is ∙ ap (λ (k : ℕ). splice (splice l next a) k b) q.goes ∙ sym (splice-append l next a b) ∙ p.is;
-  goes = omega (arith, p.goes, q.goes, length-append a b);
-  long = q.long ∙ p.long;
+pub left-more : {s l m : Output} {text a : List ℕ} (b : List ℕ) → Adds l m a → Left s text l (a ++ b) → Left s text m b
+left-more {s} {l} {m} {text} {a} b q p = record {
+  same = q.same ∙ p.same;
+  is = ap (λ (z : List ℕ). splice z m.len b) q.put.is ∙ ap (λ (k : ℕ). splice (splice l.out.now l.len a) k b) q.put.goes ∙ sym (splice-append l.out.now l.len a b) ∙ p.is;
+  goes = omega (arith, p.goes, q.put.goes, length-append a b);
+  long = q.put.long ∙ p.long;
 }
 
 -- the last piece is put
-pub left_last : {s l m text a : List ℕ} {at next then : ℕ} → Puts l next a then m → Left s at text l next a → Puts s at text then m
-left_last {s} {l} {m} {text} {a} {at} {next} {then} q p = record { is = q.is ∙ p.is; goes = q.goes ∙ p.goes; long = q.long ∙ p.long }
+pub left_last : {s l m : Output} {text a : List ℕ} → Adds l m a → Left s text l a → Adds s m text
+left_last {s} {l} {m} {text} {a} q p = record { same = q.same ∙ p.same; put = record { is = q.put.is ∙ p.is; goes = q.put.goes ∙ p.goes; long = q.put.long ∙ p.long } }
 
 -- nothing is left
-pub left_none : {s l text : List ℕ} {at next : ℕ} → Left s at text l next [] → Puts s at text next l
-left_none {s} {l} {text} {at} {next} p = record { is = sym (splice_nil l next) ∙ p.is; goes = sym (add-zero next) ∙ p.goes; long = p.long }
+pub left_none : {s l : Output} {text : List ℕ} → Left s text l [] → Adds s l text
+left_none {s} {l} {text} p = record { same = p.same; put = record { is = sym (splice_nil l.out.now l.len) ∙ p.is; goes = sym (add-zero l.len) ∙ p.goes; long = p.long } }
+
+-- there is room for what is left, and for a piece of it
+pub left-room : {s l : Output} {text : List ℕ} (a b : List ℕ) → Left s text l (a ++ b) → s.len + length text ≤ length s.out.now → l.len + length a ≤ length l.out.now
+left-room {s} {l} {text} a b p h = omega (arith, h, p.goes, p.long, length-append a b)
+
+pub left_room_last : {s l : Output} {text a : List ℕ} → Left s text l a → s.len + length text ≤ length s.out.now → l.len + length a ≤ length l.out.now
+left_room_last {s} {l} {text} {a} p h = omega (arith, h, p.goes, p.long)
 
 -- ---- bytes
 
 pub byte_put : (s : List ℕ) (at v : ℕ) → Puts s at (v ∷ []) (at + 1) (set s at v)
 byte_put s at v = puts (sym (splice-one s at v)) refl
-
--- a byte more of a text
-pub bytes_step : (s l : List ℕ) (at i : ℕ) (text : List ℕ) → i < length text → l ≡ splice s at (take i text) → set l (at + i) (get_or text i 0) ≡ splice s at (take (i + 1) text)
-bytes_step s l at i text h e =
-    write_step s l at i (take i text) (get_or text i 0) (length-take-le i text (omega arith)) e
-    ∙ ap (splice s at) (sym (take-suc text i 0 h) ∙ ap (λ (k : ℕ). take k text) (sym (add-one i)))
-
-pub bytes_put : (s l : List ℕ) (at i : ℕ) (text : List ℕ) → i ≡ length text → l ≡ splice s at (take i text) → Puts s at text (at + i) l
-bytes_put s l at i text h e = puts (e ∙ ap (splice s at) (take_all i text (omega arith))) (ap (λ (k : ℕ). at + k) h)

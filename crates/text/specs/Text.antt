@@ -1,5 +1,5 @@
 -- The text that `spiral` prints (document 01, Length, writer, program), as a list of ASCII codes. Definitions only. Assumes nothing.
-use Rattle.std.specs.Prelude.{ℕ, zero, suc, ◌+◌, ◌/◌, ◌%◌, List, [], ◌∷◌, ◌++◌, ltb, Float}
+use Rattle.std.specs.Prelude.{ℕ, zero, suc, ◌+◌, ◌/◌, ◌%◌, List, [], ◌∷◌, ◌++◌, ltb, length, take, drop, Float}
 use Rattle.std.specs.Float.{binary64}
 use Rattle.std.specs.Float.Ieee.{to_bits}
 use Rattle.binary64.specs.Number.{pick}
@@ -50,6 +50,15 @@ numbers (x ∷ xs) = space ∷ (hex_of x ++ numbers xs)
 
 unfoldable pub line : ℕ → List Float → List ℕ
 line letter xs = letter ∷ (numbers xs ++ (newline ∷ []))
+
+-- k lines of so many numbers each
+unfoldable pub lines_by : ℕ → ℕ → ℕ → List Float → List ℕ
+lines_by letter width zero xs = []
+lines_by letter width (suc k) xs = line letter (take width xs) ++ lines_by letter width k (drop width xs)
+
+-- as many as the numbers fill
+unfoldable pub lines : ℕ → ℕ → List Float → List ℕ
+lines letter width xs = lines_by letter width (length xs / width) xs
 
 -- a line for each number
 unfoldable pub singles : ℕ → List Float → List ℕ

@@ -1,16 +1,14 @@
 -- Laws of the text: how long it is, and a digit, a number or a line more. Assumes nothing.
-use Rattle.std.specs.Prelude.{◌≡◌, refl, Bool, true, false, not, ◌&&◌, ◌||◌, List, [], ◌∷◌, ◌++◌, ℕ, zero, suc, ◌+◌, ◌-◌, ◌*◌, ◌/◌, ◌%◌, ◌^◌, ◌≤◌, ◌<◌, ltb, eqb, length, drop, get_or, set, Float}
-use Rattle.std.proofs.Common.{sym, ap, ◌∙◌, append-nil, append_assoc, pow-suc, add-one, arith, ltb-true, ltb-false, eq-eqb, length-append, drop-cons}
-use Rattle.std.specs.Bool.{beq}
-use Rattle.std.proofs.Math.Numerals.{add-two}
-use Rattle.std.specs.Float.{nan, inf, fin, binary64}
-use Rattle.std.specs.Float.Ieee.{up, down, ne, eq, is_nan, to_bits}
+use Rattle.std.specs.Prelude.{◌≡◌, refl, Bool, true, false, List, [], ◌∷◌, ◌++◌, ℕ, zero, suc, ◌+◌, ◌-◌, ◌*◌, ◌/◌, ◌%◌, ◌^◌, ◌≤◌, ◌<◌, ltb, length, drop, get_or, set, Float}
+use Rattle.std.proofs.Common.{sym, ap, ◌∙◌, pow-suc, add-one, arith, ltb-true, ltb-false, length-append, drop-cons}
+use Rattle.std.proofs.Math.Nat.{add-div_left, div-eq_of_lt}
+use Rattle.std.proofs.Math.Seq.{take-append_seam, drop-append_seam}
+use Rattle.std.specs.Float.{nan, binary64}
+use Rattle.std.specs.Float.Ieee.{to_bits}
 use Rattle.binary64.specs.Number.{pick}
 use Rattle.stretch.specs.Stretch.{splice}
 use Rattle.stretch.specs.StretchLaws.{splice_nil, splice_snoc, set-splice-after}
-use Rattle.text.specs.Put.{Puts}
-use Rattle.text.specs.PutLaws.{puts}
-use Rattle.text.specs.Text.{glyph, digits, places_by, places, decimal, hex_of, space, newline, word, numbers, line, singles, pairs, end_line, refused_text, run_text}
+use Rattle.text.specs.Text.{glyph, digits, places_by, places, decimal, hex_of, space, newline, word, numbers, line, lines_by, lines, singles, pairs, end_line, refused_text, run_text}
 
 -- ---- digits
 
@@ -116,30 +114,13 @@ pub length_hex : (x : Float) → length (hex_of x) ≡ 16
 unfolding hex_of
 length_hex x = length_digits 16 16 (to_bits binary64 x)
 
-pub decimal_put : (s l : List ℕ) (at k n : ℕ) → k ≡ places n → l ≡ splice s at (digits 10 k n) → Puts s at (decimal n) (at + k) l
+pub decimal_is : (n : ℕ) → digits 10 (places n) n ≡ decimal n
 unfolding decimal
-decimal_put s l at k n e p =
-    puts (p ∙ ap (λ (j : ℕ). splice s at (digits 10 j n)) e) (ap (λ (j : ℕ). at + j) (e ∙ sym (length_digits 10 (places n) n)))
+decimal_is n = refl
 
-pub hex_put : (s l : List ℕ) (at b : ℕ) (x : Float) → b ≡ to_bits binary64 x → l ≡ splice s at (digits 16 16 b) → Puts s at (hex_of x) (at + 16) l
+pub hex_is : (x : Float) → digits 16 16 (to_bits binary64 x) ≡ hex_of x
 unfolding hex_of
-hex_put s l at b x e p =
-    puts (p ∙ ap (λ (j : ℕ). splice s at (digits 16 16 j)) e) (ap (λ (j : ℕ). at + j) (sym (length_digits 16 16 (to_bits binary64 x))))
-
--- a NaN alone differs from itself
-pub ne_self : (x : Float) → ne x x ≡ is_nan x
-unfolding ne eq is_nan
-ne_self nan = refl
-ne_self (inf s) = ap not (same s)
-  where
-    same : (b : Bool) → beq b b ≡ true
-    same true = refl
-    same false = refl
-ne_self (fin s m e) = ap not (ap (λ (a : Bool). a && (beq s s || eqb (m * up e * down e) 0)) (eq-eqb (m * up e * down e) (m * up e * down e) refl) ∙ ap (λ (b : Bool). b || eqb (m * up e * down e) 0) (same s))
-  where
-    same : (b : Bool) → beq b b ≡ true
-    same true = refl
-    same false = refl
+hex_is x = refl
 
 -- ---- lines
 
@@ -163,40 +144,50 @@ length_pairs letter (x ∷ []) = omega arith
 length_pairs letter (x ∷ y ∷ xs) = rw length-append (omega (arith, length_line_2 letter x y, length_pairs letter xs))
 
 -- a line in pieces
-pub line_1 : (letter : ℕ) (x : Float) → line letter (x ∷ []) ≡ (letter ∷ []) ++ ((space ∷ []) ++ (hex_of x ++ (newline ∷ [])))
-unfolding line numbers
-line_1 letter x = ap (λ (r : List ℕ). letter ∷ space ∷ (r ++ (newline ∷ []))) (append-nil (hex_of x))
+pub line_is : (letter : ℕ) (xs : List Float) → line letter xs ≡ (letter ∷ []) ++ (numbers xs ++ (newline ∷ []))
+unfolding line
+line_is letter xs = refl
 
-pub line_2 : (letter : ℕ) (x y : Float) → line letter (x ∷ y ∷ []) ≡ (letter ∷ []) ++ ((space ∷ []) ++ (hex_of x ++ ((space ∷ []) ++ (hex_of y ++ (newline ∷ [])))))
-unfolding line numbers
-line_2 letter x y =
-    ap (λ (r : List ℕ). letter ∷ space ∷ r) (append_assoc (hex_of x) (space ∷ (hex_of y ++ [])) (newline ∷ []))
-    ∙ ap (λ (r : List ℕ). letter ∷ space ∷ (hex_of x ++ (space ∷ (r ++ (newline ∷ []))))) (append-nil (hex_of y))
+-- what is left of the numbers from number i on
+pub numbers-next : (xs : List Float) (i : ℕ) → i < length xs → numbers (drop i xs) ≡ (space ∷ []) ++ (hex_of (get_or xs i nan) ++ numbers (drop (i + 1) xs))
+unfolding numbers
+numbers-next xs i h = rw (add-one, drop-cons xs i nan h)
 
--- what is left of the lines from number i on
-pub singles-next : (letter : ℕ) (xs : List Float) (i : ℕ) → i < length xs → singles letter (drop i xs) ≡ line letter (get_or xs i nan ∷ []) ++ singles letter (drop (i + 1) xs)
+pub numbers_none : (xs : List Float) (i : ℕ) → length xs ≤ i → numbers (drop i xs) ≡ []
+unfolding numbers
+numbers_none [] zero h = refl
+numbers_none [] (suc i) h = refl
+numbers_none (x ∷ xs) zero h = absurd (omega arith)
+numbers_none (x ∷ xs) (suc i) h = numbers_none xs i (omega arith)
+
+-- a line's numbers in front, and fewer
+lines-front : (letter : ℕ) (front rest : List Float) → 0 < length front → lines letter (length front) (front ++ rest) ≡ line letter front ++ lines letter (length front) rest
+unfolding lines lines_by
+lines-front letter front rest p =
+    let n : length (front ++ rest) / length front ≡ suc (length rest / length front) =
+    ap (λ (k : ℕ). k / length front) (length-append front rest) ∙ add-div_left (length rest) p ∙ add-one (length rest / length front) in
+    rw (n, take-append_seam front rest, drop-append_seam front rest) refl
+
+pub lines_next : (letter width : ℕ) (xs front rest : List Float) → 0 < width → xs ≡ front ++ rest → length front ≡ width
+    → lines letter width xs ≡ line letter front ++ lines letter width rest
+lines_next letter width xs front rest p e h =
+    ap (lines letter width) e ∙ ap (λ (k : ℕ). lines letter k (front ++ rest)) (sym h)
+    ∙ lines-front letter front rest (omega arith) ∙ ap (λ (k : ℕ). line letter front ++ lines letter k rest) h
+
+pub lines_none : (letter width : ℕ) (xs : List Float) → length xs < width → lines letter width xs ≡ []
+unfolding lines lines_by
+lines_none letter width xs h = rw (div-eq_of_lt h) refl
+
+pub singles_are : (letter : ℕ) (xs : List Float) → lines letter 1 xs ≡ singles letter xs
 unfolding singles
-singles-next letter xs i h = rw (add-one, drop-cons xs i nan h)
+singles_are letter [] = lines_none letter 1 [] (omega arith)
+singles_are letter (x ∷ xs) = lines_next letter 1 _ (x ∷ []) xs (omega arith) refl refl ∙ ap (λ (r : List ℕ). line letter (x ∷ []) ++ r) (singles_are letter xs)
 
-pub singles_none : (letter : ℕ) (xs : List Float) (i : ℕ) → length xs ≤ i → singles letter (drop i xs) ≡ []
-unfolding singles
-singles_none letter [] zero h = refl
-singles_none letter [] (suc i) h = refl
-singles_none letter (x ∷ xs) zero h = absurd (omega arith)
-singles_none letter (x ∷ xs) (suc i) h = singles_none letter xs i (omega arith)
-
-pub pairs_next : (letter : ℕ) (xs : List Float) (i : ℕ) → i + 1 < length xs
-    → pairs letter (drop i xs) ≡ line letter (get_or xs i nan ∷ get_or xs (i + 1) nan ∷ []) ++ pairs letter (drop (i + 2) xs)
+pub pairs_are : (letter : ℕ) (xs : List Float) → lines letter 2 xs ≡ pairs letter xs
 unfolding pairs
-pairs_next letter xs i h = rw (add-one, add-two, drop-cons xs i nan (omega arith), drop-cons xs (suc i) nan (omega arith))
-
-pub pairs_none : (letter : ℕ) (xs : List Float) (i : ℕ) → length xs ≤ i + 1 → pairs letter (drop i xs) ≡ []
-unfolding pairs
-pairs_none letter [] zero h = refl
-pairs_none letter [] (suc i) h = refl
-pairs_none letter (x ∷ []) zero h = refl
-pairs_none letter (x ∷ y ∷ xs) zero h = absurd (omega arith)
-pairs_none letter (x ∷ xs) (suc i) h = pairs_none letter xs i (omega arith)
+pairs_are letter [] = lines_none letter 2 [] (omega arith)
+pairs_are letter (x ∷ []) = lines_none letter 2 (x ∷ []) (omega arith)
+pairs_are letter (x ∷ y ∷ xs) = lines_next letter 2 _ (x ∷ y ∷ []) xs (omega arith) refl refl ∙ ap (λ (r : List ℕ). line letter (x ∷ y ∷ []) ++ r) (pairs_are letter xs)
 
 -- ---- whole texts in pieces, and the room that they need
 

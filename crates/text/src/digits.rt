@@ -1,20 +1,9 @@
 // Numbers as text.
 ghost use Rattle.std.specs.Prelude.{◌≡◌, ◌+◌, ◌≤◌, ◌<◌, length};
-ghost use Rattle.std.specs.Float.{binary64};
-ghost use Rattle.std.specs.Float.Ieee.{to_bits};
-ghost use Rattle.stretch.specs.Stretch.{splice};
-ghost use Rattle.text.specs.Put.{Puts};
+ghost use Rattle.text.specs.Put.{Adds};
 ghost use Rattle.text.specs.Text as Text;
 
-// The pattern of a number, with one for every NaN.
-pub fn pattern(x: f64) -> u64
-    ensures { result ≡ to_bits binary64 x }
-{
-    if x != x {
-        return 0x7ff8_0000_0000_0000;
-    }
-    f64::to_bits(x)
-}
+use crate::raw::Output;
 
 fn glyph(d: u64) -> u8
     requires { d < 16 }
@@ -23,7 +12,7 @@ fn glyph(d: u64) -> u8
     if d < 10 { 48 + d as u8 } else { 87 + d as u8 }
 }
 
-// How many digits n has in decimal.
+// How many digits n has in decimal. A loop: std has no `ilog10`.
 fn places(n: u64) -> usize
     ensures { (result ≡ Text.places n) × (result ≤ 20) }
 {
@@ -36,36 +25,44 @@ fn places(n: u64) -> usize
     k
 }
 
-// The last k digits of n in a base, from the last one to the first.
-fn put_digits(out: &mut [u8], at: usize, base: u64, k: usize, n: u64)
-    requires { (at + k ≤ length out.old) × (0 < base) × (base ≤ 16) }
-    ensures { out.new ≡ splice out.old at (Text.digits base k n) }
+// The last digits of n in a base, as many as there is room for, from the last one to the first.
+// By index: nothing is known of what is written through `iter_mut().rev()`.
+fn fill_digits(out: &mut [u8], base: u64, n: u64)
+    requires { (0 < base) × (base ≤ 16) }
+    ensures { out.new ≡ Text.digits base (length out.old) n }
 {
-    let mut i = k;
     let mut rest = n;
-    while 0 < i {
-        i -= 1;
-        let j = at + i;
-        out[j] = glyph(rest % base);
+    for i in (0..out.len()).rev() {
+        out[i] = glyph(rest % base);
         rest /= base;
     }
 }
 
-// A whole number in decimal, and the place behind it.
-pub fn put_decimal(out: &mut [u8], at: usize, n: u64) -> usize
-    requires { at + length (Text.decimal n) ≤ length out.old }
-    ensures { Puts out.old at (Text.decimal n) result out.new }
-{
-    let k = places(n);
-    put_digits(out, at, 10, k, n);
-    at + k
-}
+impl Output<'_> {
+    // The last k digits of n in a base.
+    fn digits(&mut self, base: u64, k: usize, n: u64)
+        requires { (self.old.len + k ≤ length self.old.out.now) × (0 < base) × (base ≤ 16) }
+        ensures { Adds self.old self.new (Text.digits base k n) }
+    {
+        let end = self.len + k;
+        fill_digits(&mut self.out[self.len..end], base, n);
+        self.len = end;
+    }
 
-// A number's pattern, and the place behind it.
-pub fn put_hex(out: &mut [u8], at: usize, x: f64) -> usize
-    requires { at + length (Text.hex_of x) ≤ length out.old }
-    ensures { Puts out.old at (Text.hex_of x) result out.new }
-{
-    put_digits(out, at, 16, 16, pattern(x));
-    at + 16
+    // A whole number in decimal.
+    pub(crate) fn decimal(&mut self, n: u64)
+        requires { self.old.len + length (Text.decimal n) ≤ length self.old.out.now }
+        ensures { Adds self.old self.new (Text.decimal n) }
+    {
+        self.digits(10, places(n), n);
+    }
+
+    // A number's pattern.
+    pub(crate) fn hex(&mut self, x: f64)
+        requires { self.old.len + length (Text.hex_of x) ≤ length self.old.out.now }
+        ensures { Adds self.old self.new (Text.hex_of x) }
+    {
+        let bits = std::num::f64_to_bits_with_nan(x);
+        self.digits(16, 16, bits);
+    }
 }

@@ -1,67 +1,64 @@
 // Lines of text.
-ghost use Rattle.std.specs.Prelude.{[], ◌∷◌, ◌+◌, ◌≤◌, length};
-ghost use Rattle.text.specs.Put.{Puts};
+ghost use Rattle.std.specs.Prelude.{◌+◌, ◌≤◌, ◌<◌, length};
+ghost use Rattle.text.specs.Put.{Adds};
 ghost use Rattle.text.specs.Text as Text;
 
-use crate::{digits, raw};
+use crate::raw::Output;
 
-// A space and a whole number.
-pub fn put_word(out: &mut [u8], at: usize, n: u64) -> usize
-    requires { at + length (Text.word n) ≤ length out.old }
-    ensures { Puts out.old at (Text.word n) result out.new }
-{
-    let a = raw::put_byte(out, at, b' ');
-    digits::put_decimal(out, a, n)
-}
-
-// A line of one number.
-fn put_line(out: &mut [u8], at: usize, letter: u8, x: f64) -> usize
-    requires { at + length (Text.line letter (x ∷ [])) ≤ length out.old }
-    ensures { Puts out.old at (Text.line letter (x ∷ [])) result out.new }
-{
-    let a = raw::put_byte(out, at, letter);
-    let b = raw::put_byte(out, a, b' ');
-    let c = digits::put_hex(out, b, x);
-    raw::put_byte(out, c, b'\n')
-}
-
-// A line of two numbers.
-fn put_pair(out: &mut [u8], at: usize, letter: u8, x: f64, y: f64) -> usize
-    requires { at + length (Text.line letter (x ∷ y ∷ [])) ≤ length out.old }
-    ensures { Puts out.old at (Text.line letter (x ∷ y ∷ [])) result out.new }
-{
-    let a = raw::put_byte(out, at, letter);
-    let b = raw::put_byte(out, a, b' ');
-    let c = digits::put_hex(out, b, x);
-    let d = raw::put_byte(out, c, b' ');
-    let e = digits::put_hex(out, d, y);
-    raw::put_byte(out, e, b'\n')
-}
-
-// A line for each number.
-pub fn put_singles(out: &mut [u8], at: usize, letter: u8, xs: &[f64]) -> usize
-    requires { at + length (Text.singles letter xs.now) ≤ length out.old }
-    ensures { Puts out.old at (Text.singles letter xs.now) result out.new }
-{
-    let mut next = at;
-    let mut i = 0;
-    while i < xs.len() {
-        next = put_line(out, next, letter, xs[i]);
-        i += 1;
+impl Output<'_> {
+    // A space and a whole number.
+    pub(crate) fn word(&mut self, n: u64)
+        requires { self.old.len + length (Text.word n) ≤ length self.old.out.now }
+        ensures { Adds self.old self.new (Text.word n) }
+    {
+        self.byte(b' ');
+        self.decimal(n);
     }
-    next
-}
 
-// A line for each x and y.
-pub fn put_pairs(out: &mut [u8], at: usize, letter: u8, xs: &[f64]) -> usize
-    requires { at + length (Text.pairs letter xs.now) ≤ length out.old }
-    ensures { Puts out.old at (Text.pairs letter xs.now) result out.new }
-{
-    let mut next = at;
-    let mut i = 0;
-    while i + 1 < xs.len() {
-        next = put_pair(out, next, letter, xs[i], xs[i + 1]);
-        i += 2;
+    // Numbers, a space before each.
+    fn numbers(&mut self, xs: &[f64])
+        requires { self.old.len + length (Text.numbers xs.now) ≤ length self.old.out.now }
+        ensures { Adds self.old self.new (Text.numbers xs.now) }
+    {
+        for x in xs {
+            self.byte(b' ');
+            self.hex(*x);
+        }
     }
-    next
+
+    // A line of numbers.
+    fn line(&mut self, letter: u8, xs: &[f64])
+        requires { self.old.len + length (Text.line letter xs.now) ≤ length self.old.out.now }
+        ensures { Adds self.old self.new (Text.line letter xs.now) }
+    {
+        self.byte(letter);
+        self.numbers(xs);
+        self.byte(b'\n');
+    }
+
+    // As many lines of so many numbers as there are numbers for.
+    fn lines(&mut self, letter: u8, width: usize, xs: &[f64])
+        requires { (0 < width) × (self.old.len + length (Text.lines letter width xs.now) ≤ length self.old.out.now) }
+        ensures { Adds self.old self.new (Text.lines letter width xs.now) }
+    {
+        for part in xs.chunks_exact(width) {
+            self.line(letter, part);
+        }
+    }
+
+    // A line for each number.
+    pub fn singles(&mut self, letter: u8, xs: &[f64])
+        requires { self.old.len + length (Text.singles letter xs.now) ≤ length self.old.out.now }
+        ensures { Adds self.old self.new (Text.singles letter xs.now) }
+    {
+        self.lines(letter, 1, xs);
+    }
+
+    // A line for each x and y; a last number without its pair has none.
+    pub fn pairs(&mut self, letter: u8, xs: &[f64])
+        requires { self.old.len + length (Text.pairs letter xs.now) ≤ length self.old.out.now }
+        ensures { Adds self.old self.new (Text.pairs letter xs.now) }
+    {
+        self.lines(letter, 2, xs);
+    }
 }

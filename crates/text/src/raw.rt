@@ -1,24 +1,29 @@
-// Bytes as they are.
+// Bytes as they are, behind one another.
 ghost use Rattle.std.specs.Prelude.{[], ◌∷◌, ◌+◌, ◌≤◌, length};
-ghost use Rattle.text.specs.Put.{Puts};
+ghost use Rattle.text.specs.Put.{Adds};
 
-pub fn put_byte(out: &mut [u8], at: usize, v: u8) -> usize
-    requires { at + 1 ≤ length out.old }
-    ensures { Puts out.old at (v ∷ []) result out.new }
-{
-    out[at] = v;
-    at + 1
+// The bytes that are lent, and the place behind the text that stands in them.
+#[derive(Drop)]
+pub struct Output<'a> {
+    pub out: &'a mut [u8],
+    pub len: usize,
 }
 
-pub fn put_bytes(out: &mut [u8], at: usize, text: &[u8]) -> usize
-    requires { at + length text.now ≤ length out.old }
-    ensures { Puts out.old at text.now result out.new }
-{
-    let mut i = 0;
-    while i < text.len() {
-        let j = at + i;
-        out[j] = text[i];
-        i += 1;
+impl Output<'_> {
+    pub(crate) fn byte(&mut self, v: u8)
+        requires { self.old.len + 1 ≤ length self.old.out.now }
+        ensures { Adds self.old self.new (v ∷ []) }
+    {
+        self.out[self.len] = v;
+        self.len += 1;
     }
-    at + i
+
+    pub(crate) fn bytes(&mut self, text: &[u8])
+        requires { self.old.len + length text.now ≤ length self.old.out.now }
+        ensures { Adds self.old self.new text.now }
+    {
+        let end = self.len + text.len();
+        self.out[self.len..end].copy_from_slice(text);
+        self.len = end;
+    }
 }

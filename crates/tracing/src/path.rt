@@ -1,7 +1,6 @@
 // The points of a crossing, the room rule and the ends of the path; a path's length.
 ghost use Rattle.std.specs.Prelude.{◌≡◌, ◌+◌, ◌-◌, ◌*◌, ◌^◌, ◌<◌, ◌≤◌};
 ghost use Rattle.std.proofs.Math.ListN as Lists;
-ghost use Rattle.binary64.specs.Number.{pick};
 ghost use Rattle.stretch.specs.Stretch.{splice};
 ghost use Rattle.pde.specs.Path as Paths;
 ghost use Rattle.pde.specs.Work.{Roomy};
@@ -18,10 +17,11 @@ pub fn put_points(path: &mut [f64], at: usize, p: Point, q: Point, n: usize, k: 
 {
     let dx = q.x - p.x;
     let dy = q.y - p.y;
-    let parts = std::num::nearest_u64_to_f64(n as u64);
+    let parts = std::num::nearest_usize_to_f64(n);
+    // By number: of a slice that is written through its chunks the check knows only the length.
     for i in 0..k {
         let next = i + 1;
-        let t = std::num::nearest_u64_to_f64(next as u64) / parts;
+        let t = std::num::nearest_usize_to_f64(next) / parts;
         let j = at + 2 * i;
         let l = j + 1;
         path[j] = p.x + t * dx;
@@ -29,25 +29,13 @@ pub fn put_points(path: &mut [f64], at: usize, p: Point, q: Point, n: usize, k: 
     }
 }
 
-// How many points lie inside n pieces.
-fn inside(n: usize) -> usize
-    ensures { result ≡ n - 1 }
-{
-    if n == 0 {
-        return 0;
-    }
-    n - 1
-}
-
 // How many points an end puts down.
 fn closes(b: Beyond) -> usize
     ensures { result ≡ Paths.closes b }
 {
     match b {
-        Beyond::Border => 0,
-        Beyond::Unnamed => 0,
         Beyond::Above => 1,
-        Beyond::Into(_, _) => 0,
+        Beyond::Border | Beyond::Unnamed | Beyond::Into(_) => 0,
     }
 }
 
@@ -57,75 +45,46 @@ fn put_closing(path: &mut [f64], at: usize, q: Point, b: Beyond)
     ensures { path.new ≡ splice path.old at (Paths.coordinates_of (Paths.closing q b)) }
 {
     match b {
-        Beyond::Border => {}
-        Beyond::Unnamed => {}
         Beyond::Above => {
             let l = at + 1;
             path[at] = q.x;
             path[l] = q.y;
         }
-        Beyond::Into(_, _) => {}
+        Beyond::Border | Beyond::Unnamed | Beyond::Into(_) => {}
     }
 }
 
 // ---- the path after a crossing
-
-fn ended(w: Walk, end: usize) -> Walk
-    ensures { result ≡ Paths.ended w end }
-{
-    let position = w.position;
-    Walk {
-        position,
-        triangle: w.triangle,
-        edge: w.edge,
-        points: w.points,
-        end,
-    }
-}
-
-fn with_points(w: Walk, k: usize, end: usize) -> Walk
-    requires { w.points + k < 2 ^ 64 }
-    ensures { result ≡ Paths.with_points w k end }
-{
-    let position = w.position;
-    Walk {
-        position,
-        triangle: w.triangle,
-        edge: w.edge,
-        points: w.points + k,
-        end,
-    }
-}
-
-// End 6 where this was the last crossing.
-fn end_of(last: bool) -> usize
-    ensures { result ≡ pick last 6 0 }
-{
-    if last {
-        return 6;
-    }
-    0
-}
 
 // Ends 3, 4, 5; or on into the next triangle, with end 6 where this was the last crossing.
 fn gone(last: bool, w: Walk, q: Point, b: Beyond, k: usize) -> Walk
     requires { w.points + k < 2 ^ 64 }
     ensures { result ≡ Paths.gone last w q b k }
 {
+    let points = w.points + k;
     match b {
-        Beyond::Border => with_points(w, k, 3),
-        Beyond::Unnamed => with_points(w, k, 4),
-        Beyond::Above => with_points(w, k, 5),
-        Beyond::Into(triangle, edge) => {
-            let end = end_of(last);
-            Walk {
-                position: q,
-                triangle,
-                edge,
-                points: w.points + k,
-                end,
-            }
-        }
+        Beyond::Border => Walk {
+            points,
+            end: 3,
+            ..w
+        },
+        Beyond::Unnamed => Walk {
+            points,
+            end: 4,
+            ..w
+        },
+        Beyond::Above => Walk {
+            points,
+            end: 5,
+            ..w
+        },
+        Beyond::Into(side) => Walk {
+            position: q,
+            triangle: side.triangle,
+            edge: side.edge,
+            points,
+            end: if last { 6 } else { 0 },
+        },
     }
 }
 
@@ -134,10 +93,9 @@ fn left_at(room: usize, last: bool, w: Walk, q: Point, n: usize, b: Beyond) -> W
     requires { w.points ≤ room }
     ensures { result ≡ Paths.walked room last w (Crossing.Leaves q n b) }
 {
-    let points = w.points;
-    let k = inside(n) + closes(b);
-    if room - points < k {
-        return ended(w, 7);
+    let k = n.saturating_sub(1) + closes(b);
+    if room - w.points < k {
+        return Walk { end: 7, ..w };
     }
     gone(last, w, q, b, k)
 }
@@ -148,8 +106,8 @@ pub fn after(room: usize, last: bool, w: Walk, c: Crossing) -> Walk
     ensures { result ≡ Paths.walked room last w c }
 {
     match c {
-        Crossing::Dull => ended(w, 1),
-        Crossing::Stuck => ended(w, 2),
+        Crossing::Dull => Walk { end: 1, ..w },
+        Crossing::Stuck => Walk { end: 2, ..w },
         Crossing::Leaves(q, n, b) => left_at(room, last, w, q, n, b),
     }
 }
@@ -161,7 +119,7 @@ fn put_leaving(path: &mut [f64], room: usize, w: Walk, q: Point, n: usize, b: Be
 {
     let from = w.position;
     let points = w.points;
-    let between = inside(n);
+    let between = n.saturating_sub(1);
     let k = between + closes(b);
     if room - points < k {
         return;
@@ -176,11 +134,8 @@ pub fn put_added(path: &mut [f64], room: usize, w: Walk, c: Crossing)
     ensures { path.new ≡ splice path.old (Paths.point_floats * w.points) (Paths.coordinates_of (Paths.added room w c)) }
 {
     match c {
-        Crossing::Dull => {}
-        Crossing::Stuck => {}
-        Crossing::Leaves(q, n, b) => {
-            put_leaving(path, room, w, q, n, b);
-        }
+        Crossing::Dull | Crossing::Stuck => {}
+        Crossing::Leaves(q, n, b) => put_leaving(path, room, w, q, n, b),
     }
 }
 
@@ -190,24 +145,22 @@ pub fn put_added(path: &mut [f64], room: usize, w: Walk, c: Crossing)
 pub fn length(path: &[f64]) -> f64
     ensures { result ≡ Paths.length_of path.now }
 {
-    if path.len() < 2 {
+    let mut points = path.chunks_exact(2);
+    let Some(first) = points.next() else {
         return 0.0;
-    }
+    };
     let mut p = Point {
-        x: path[0],
-        y: path[1],
+        x: first[0],
+        y: first[1],
     };
     let mut sum = 0.0;
-    let mut i = 2;
-    while 2 <= path.len() - i {
-        let j = i + 1;
+    for pair in points {
         let q = Point {
-            x: path[i],
-            y: path[j],
+            x: pair[0],
+            y: pair[1],
         };
-        sum = sum + edges::distance(p, q);
+        sum += edges::distance(p, q);
         p = q;
-        i += 2;
     }
     sum
 }

@@ -1,11 +1,9 @@
 -- Passes on a front alone lead where passes on the whole buffers lead, whatever the buffers hold: a pass keeps the front's length, and what it gives is written behind the front.
 -- Assumes nothing.
-use Rattle.std.specs.Prelude.{ℕ, zero, suc, ◌+◌, ◌-◌, ◌≤◌, ◌≡◌, refl, List, [], ◌∷◌, ◌++◌, length, take, drop, Float}
+use Rattle.std.specs.Prelude.{ℕ, zero, suc, ◌+◌, ◌-◌, ◌≤◌, ◌≡◌, refl, List, [], ◌∷◌, ◌++◌, length, take, drop, Float, Option, Some, None}
 use Rattle.std.proofs.Common.{sym, ap, ◌∙◌, arith, add-zero, add-suc}
 use Rattle.stretch.specs.StretchLaws.{length-splice, take-splice-before}
 use Rattle.conjugate.specs.Solver.{Turn, halted, reached, moved}
-use Rattle.pde.specs.declared.Start.{Start}
-use Rattle.work.specs.declared.Given.{Given}
 use Rattle.work.specs.declared.Gives.{Gives}
 use Rattle.work.specs.declared.Plan.{Plan}
 use Rattle.work.specs.declared.Stand.{Stand}
@@ -13,6 +11,8 @@ use Rattle.work.specs.Layout.{at_norms}
 use Rattle.work.specs.Memory.{Stepped, solved_step, set_out_step, solve_step, graded, start_by, begin_step, cross_step, step_on, Work, floats_given, front_of, beyond_front, once, goes, Dry, dry}
 use Rattle.work.specs.Dry.{dry_of, dry_at, gain}
 use Rattle.work.specs.StandingLaws.{step_elim, step_over, step_forth, turn_of}
+use Rattle.plane.specs.declared.Point.{Point}
+use Rattle.pde.specs.declared.Entry.{Entry}
 
 -- ---- a pass keeps the front's length
 
@@ -22,14 +22,14 @@ solved-length plan s f halted = simp length-splice
 solved-length plan s f (reached x r norm) = simp length-splice
 solved-length plan s f (moved next norm) = simp length-splice
 
-set_out-front : (s : Stand) (f : List Float) (k : ℕ) (st : Start) → (set_out_step s f k st).front ≡ f
+set_out-front : (s : Stand) (f : List Float) (k : ℕ) (st : Option Entry) → (set_out_step s f k st).front ≡ f
 unfolding set_out_step
-set_out-front s f k (Start.At p t e) = refl
-set_out-front s f k Start.Nothing = refl
+set_out-front s f k (Some at) = refl
+set_out-front s f k None = refl
 
-pub start-front : (plan : Plan) (words : List ℕ) (f : List Float) (s : Stand) (g : Given) → (start_by plan words f s g).front ≡ graded plan words f s
-start-front plan words f s (Given.At p) = set_out-front s (graded plan words f s) 8 _
-start-front plan words f s Given.Nothing = set_out-front s (graded plan words f s) 9 _
+pub start-front : (plan : Plan) (words : List ℕ) (f : List Float) (s : Stand) (g : Option Point) → (start_by plan words f s g).front ≡ graded plan words f s
+start-front plan words f s (Some p) = set_out-front s (graded plan words f s) 8 _
+start-front plan words f s None = set_out-front s (graded plan words f s) 9 _
 
 pub step_length : (plan : Plan) (words : List ℕ) (f : List Float) (s : Stand) → length (step_on plan words f s).front ≡ length f
 unfolding solve_step begin_step cross_step

@@ -1,20 +1,19 @@
 -- What each kind of pass on a front asks and ensures. Definitions only. Assumes nothing.
-use Rattle.std.specs.Prelude.{◌≡◌, List, ℕ, ◌*◌, ◌<◌, length, Float}
+use Rattle.std.specs.Prelude.{◌≡◌, List, ℕ, ◌*◌, ◌<◌, length, Float, Option, Some, None}
 use Rattle.stretch.specs.Stretch.{part, splice}
-use Rattle.mesh.specs.declared.Mesh.{Mesh}
 use Rattle.mesh.specs.Element.{flat}
-use Rattle.mesh.specs.Work.{vertices_of, triangles_of, neighbours_of, tags_of}
+use Rattle.mesh.specs.Work.{vertices_of, triangles_of, neighbours_of, tags_of, MeshAt}
 use Rattle.gradient.specs.Gradient.{gradients}
-use Rattle.pde.specs.declared.Start.{Start}
 use Rattle.pde.specs.Start.{triangle_containing, pick_start}
 use Rattle.pde.specs.Work.{Fielded, field_of}
-use Rattle.work.specs.declared.Given.{Given}
 use Rattle.work.specs.declared.Plan.{Plan}
 use Rattle.work.specs.declared.Stand.{Stand}
 use Rattle.work.specs.declared.Step.{Step}
 use Rattle.work.specs.Layout.{at_x, at_gradients, at_norms, at_neighbours, at_tags, mesh_at}
 use Rattle.work.specs.Memory.{Stepped}
 use Rattle.work.specs.Ready.{Ready, Standing}
+use Rattle.plane.specs.declared.Point.{Point}
+use Rattle.pde.specs.declared.Entry.{Entry}
 
 -- a front of the plan's length
 pub record Searchable (plan : Plan) (words : List ℕ) (f : List Float) : Type 0 where
@@ -46,20 +45,20 @@ gradients_put plan words f =
     splice f (at_gradients plan.n plan.t) (gradients flat (part f 0 (2 * plan.n)) (part f (at_x plan.n plan.t) plan.n) (part words 0 (3 * plan.t)))
 
 -- the start that is found in a mesh with its field from u, and in a front
-abbrev pub found_in : List Float → List ℕ → Mesh → ℕ → Given → Start
-found_in floats words m u (Given.At p) = triangle_containing (vertices_of floats m) (triangles_of words m) m.t p
-found_in floats words m u Given.Nothing = pick_start (vertices_of floats m) (triangles_of words m) (neighbours_of words m) (tags_of words m) m.t (field_of floats m u)
+abbrev pub found_in : List Float → List ℕ → MeshAt → ℕ → Option Point → Option Entry
+found_in floats words m u (Some p) = triangle_containing (vertices_of floats m) (triangles_of words m) m.t p
+found_in floats words m u None = pick_start (vertices_of floats m) (triangles_of words m) (neighbours_of words m) (tags_of words m) m.t (field_of floats m u)
 
-abbrev pub found_by : Plan → List ℕ → List Float → Given → Start
-found_by plan words f (Given.At p) = triangle_containing (part f 0 (2 * plan.n)) (part words 0 (3 * plan.t)) plan.t p
-found_by plan words f Given.Nothing =
+abbrev pub found_by : Plan → List ℕ → List Float → Option Point → Option Entry
+found_by plan words f (Some p) = triangle_containing (part f 0 (2 * plan.n)) (part words 0 (3 * plan.t)) plan.t p
+found_by plan words f None =
     pick_start (part f 0 (2 * plan.n)) (part words 0 (3 * plan.t)) (part words (at_neighbours plan.t) (3 * plan.t)) (part words (at_tags plan.t) plan.n) plan.t
     (part f (at_x plan.n plan.t) plan.n)
 
 -- the end where none is
-abbrev pub lost_by : Given → ℕ
-lost_by (Given.At p) = 8
-lost_by Given.Nothing = 9
+abbrev pub lost_by : Option Point → ℕ
+lost_by (Some p) = 8
+lost_by None = 9
 
 -- ---- what the functions ensure
 

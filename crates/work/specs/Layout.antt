@@ -2,9 +2,9 @@
 -- Floats: vertices 2n, right side n, row buffer n, values 9T + n, x n, r n, p n, product n, gradients 2T, which a pass works on; norms limit + 1; kept x r p 3n; spare.
 -- Words: triangles 3T, neighbours 3T, tags n, row starts n + 1, columns 9T + n, heads n, links 3T, row columns n, spare. Path: the coordinates of room points.
 use Rattle.std.specs.Prelude.{ℕ, ◌+◌, ◌*◌}
-use Rattle.sparse.specs.declared.Csr.{Csr}
-use Rattle.mesh.specs.declared.Mesh.{Mesh}
-use Rattle.conjugate.specs.declared.Vectors.{Vectors}
+use Rattle.sparse.specs.Stored.{CsrAt}
+use Rattle.mesh.specs.Work.{MeshAt}
+use Rattle.conjugate.specs.Placed.{VectorsAt}
 
 abbrev pub at_right : ℕ → ℕ → ℕ
 at_right n t = 2 * n
@@ -60,11 +60,11 @@ abbrev pub at_row_columns : ℕ → ℕ → ℕ
 at_row_columns n t = 4 * n + 18 * t + 1
 
 -- the matrix, the mesh and the vectors by their places
-abbrev pub matrix_at : ℕ → ℕ → Csr
+abbrev pub matrix_at : ℕ → ℕ → CsrAt
 matrix_at n t = record { starts = at_starts n t; cols = at_columns n t; vals = at_values n t; rows = n; count = 9 * t + n }
 
-abbrev pub mesh_at : ℕ → ℕ → Mesh
+abbrev pub mesh_at : ℕ → ℕ → MeshAt
 mesh_at n t = record { n = n; t = t; vertices = 0; triangles = 0; neighbours = at_neighbours t; tags = at_tags t }
 
-abbrev pub vectors_at : ℕ → ℕ → Vectors
+abbrev pub vectors_at : ℕ → ℕ → VectorsAt
 vectors_at n t = record { x = at_x n t; r = at_r n t; p = at_p n t; product = at_product n t }

@@ -1,5 +1,5 @@
 -- What a pass, passes in a row and the way to another place do to the lent buffers, whatever they hold. Definitions only. Assumes nothing.
-use Rattle.std.specs.Prelude.{ℕ, zero, suc, ◌+◌, ◌-◌, ◌*◌, ◌&&◌, not, List, [], ◌∷◌, ◌++◌, leb, ltb, eqb, take, drop, replicate, Float}
+use Rattle.std.specs.Prelude.{ℕ, zero, suc, ◌+◌, ◌-◌, ◌*◌, ◌&&◌, not, List, [], ◌∷◌, ◌++◌, leb, ltb, eqb, take, drop, replicate, Float, Option, Some, None}
 use Rattle.binary64.specs.Constants.{plus_zero}
 use Rattle.binary64.specs.Number.{pick}
 use Rattle.binary64.specs.Root.{root}
@@ -10,7 +10,6 @@ use Rattle.conjugate.specs.Solver as Solver
 use Rattle.conjugate.specs.Solver.{Solve, Turn, halted, reached, moved, begun}
 use Rattle.gradient.specs.Gradient.{gradients}
 use Rattle.plane.specs.declared.Point.{Point}
-use Rattle.pde.specs.declared.Start.{Start}
 use Rattle.pde.specs.declared.Walk.{Walk}
 use Rattle.pde.specs.declared.Crossing.{Crossing}
 use Rattle.pde.specs.Start.{triangle_containing, pick_start}
@@ -19,14 +18,13 @@ use Rattle.pde.specs.Path.{point_floats, coordinates_of, ended, walked, added}
 use Rattle.model.specs.Space.{factor}
 use Rattle.model.specs.SolvedPlace.{solved_at}
 use Rattle.model.specs.Run.{rule, nowhere, Next, over, solve, begin, cross, next_by}
-use Rattle.work.specs.declared.Given.{Given}
 use Rattle.work.specs.declared.Plan.{Plan}
 use Rattle.work.specs.declared.Stand.{Stand}
 use Rattle.work.specs.declared.Gives.{Gives}
 use Rattle.work.specs.declared.Kept.{Kept}
-use Rattle.work.specs.declared.Mark.{Mark}
 use Rattle.work.specs.declared.Origin.{Origin}
 use Rattle.work.specs.Layout.{at_right, at_x, at_r, at_p, at_product, at_kept, at_gradients, at_norms, at_neighbours, at_tags, matrix_at}
+use Rattle.pde.specs.declared.Entry.{Entry}
 
 -- ---- one pass on the front of the floats: all that lies before the norms
 
@@ -67,9 +65,9 @@ walked_stand s w k = record { place = s.place + 1; rs = s.rs; norms = s.norms; e
 abbrev pub crossed_stand : Plan → Stand → Crossing → Stand
 crossed_stand plan s x = walked_stand s (walked plan.room (eqb (s.crossings + 1) (factor * plan.t)) s.walk x) (s.crossings + 1)
 
-unfoldable pub set_out_step : Stand → List Float → ℕ → Start → Stepped
-set_out_step s f otherwise (Start.At p t e) = stepped f (walked_stand s (record { position = p; triangle = t; edge = e; points = 1; end = 0 }) 0) (Gives.First p)
-set_out_step s f otherwise Start.Nothing = stepped f (walked_stand s (ended nowhere otherwise) 0) Gives.Nothing
+unfoldable pub set_out_step : Stand → List Float → ℕ → Option Entry → Stepped
+set_out_step s f otherwise (Some at) = stepped f (walked_stand s (record { position = at.point; triangle = at.triangle; edge = at.edge; points = 1; end = 0 }) 0) (Gives.First at.point)
+set_out_step s f otherwise None = stepped f (walked_stand s (ended nowhere otherwise) 0) Gives.Nothing
 
 module _ (plan : Plan) (words : List ℕ) (f : List Float) where
   abbrev n : ℕ
@@ -105,9 +103,9 @@ module _ (plan : Plan) (words : List ℕ) (f : List Float) where
     abbrev pub graded : List Float
     graded = splice f (at_gradients n t) (gradients flat vs us ts)
 
-    abbrev pub start_by : Given → Stepped
-    start_by (Given.At p) = set_out_step s graded 8 (triangle_containing vs ts t p)
-    start_by Given.Nothing = set_out_step s graded 9 (pick_start vs ts ns tags t us)
+    abbrev pub start_by : Option Point → Stepped
+    start_by (Some p) = set_out_step s graded 8 (triangle_containing vs ts t p)
+    start_by None = set_out_step s graded 9 (pick_start vs ts ns tags t us)
 
     unfoldable pub begin_step : Stepped
     unfolding set_out_step
@@ -189,12 +187,12 @@ dry plan words (suc k) d = let e = step_on plan words (dry plan words k d).front
 -- ---- the way to a place
 
 -- the kept vectors serve where they are not past the target and their field had no end, as fewer norms than the limit allows tell
-abbrev pub from_mark : ℕ → Mark → ℕ → Origin
-from_mark limit Mark.Nothing target = Origin.Zero
-from_mark limit (Mark.At k) target = pick (leb k.place target && leb k.norms limit) (Origin.Kept k) Origin.Zero
+abbrev pub from_mark : ℕ → Option Kept → ℕ → Origin
+from_mark limit None target = Origin.Zero
+from_mark limit (Some k) target = pick (leb k.place target && leb k.norms limit) (Origin.Kept k) Origin.Zero
 
 -- on from here; a place after the start pass from there, and one at the field's end from there; else from the kept vectors; else from place 0
-unfoldable pub origin_of : ℕ → Stand → Mark → ℕ → Origin
+unfoldable pub origin_of : ℕ → Stand → Option Kept → ℕ → Origin
 origin_of limit s mark target =
     pick (leb s.place target) Origin.Here
     (pick (not (eqb s.end 0) && leb (solved_at s.norms s.end) target) (pick (ltb (solved_at s.norms s.end) target) Origin.Started Origin.Solved) (from_mark limit mark target))
@@ -255,7 +253,7 @@ from_origin plan words (Origin.Kept k) w = to_kept plan k w
 from_origin plan words Origin.Zero w = to_zero plan words w
 
 -- the place sought, by passes from its origin
-unfoldable pub seek : Plan → List ℕ → Mark → ℕ → Work → Work
+unfoldable pub seek : Plan → List ℕ → Option Kept → ℕ → Work → Work
 unfolding goes origin_of to_started to_solved to_kept to_zero
 seek plan words mark target w =
     let o = from_origin plan words (origin_of plan.limit w.stand mark target) w in

@@ -1,5 +1,5 @@
 -- What the calls establish before any pass is made, and what each pass keeps: the counts of the plan, indices in the words, and the counts of a place. Definitions only. Assumes nothing.
-use Rattle.std.specs.Prelude.{ℕ, ◌+◌, ◌*◌, ◌≤◌, ◌<◌, ◌≡◌, List, eqb, length, Float}
+use Rattle.std.specs.Prelude.{ℕ, ◌+◌, ◌*◌, ◌≤◌, ◌<◌, ◌≡◌, List, eqb, length, Float, Option, Some, None}
 use Rattle.binary64.specs.Number.{pick}
 use Rattle.sparse.specs.Stored.{Sound}
 use Rattle.mesh.specs.Work.{Linked}
@@ -8,10 +8,9 @@ use Rattle.model.specs.Space.{factor, float_space, path_space}
 use Rattle.work.specs.declared.Plan.{Plan}
 use Rattle.work.specs.declared.Stand.{Stand}
 use Rattle.work.specs.declared.Kept.{Kept}
-use Rattle.work.specs.declared.Mark.{Mark}
 use Rattle.work.specs.declared.Step.{Step}
 use Rattle.work.specs.Layout.{at_norms, matrix_at, mesh_at}
-use Rattle.work.specs.Memory.{step_on, Work, work}
+use Rattle.work.specs.Memory.{step_on, Work}
 
 -- the plan's counts, and the indices in the words
 pub record Ready (plan : Plan) (words : List ℕ) : Type 0 where
@@ -36,9 +35,9 @@ pub record Standing (plan : Plan) (s : Stand) : Type 0 where
 pub record Keeping (plan : Plan) (k : Kept) : Type 0 where
   pub least : 1 ≤ k.norms
 
-abbrev pub MarkKeeping : Plan → Mark → Type 0
-MarkKeeping plan Mark.Nothing = Unit
-MarkKeeping plan (Mark.At k) = Keeping plan k
+abbrev pub MarkKeeping : Plan → Option Kept → Type 0
+MarkKeeping plan None = Unit
+MarkKeeping plan (Some k) = Keeping plan k
 
 -- the lent floats and path are long enough
 pub record Roomy (plan : Plan) (floats path : List Float) : Type 0 where

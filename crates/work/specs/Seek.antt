@@ -1,12 +1,12 @@
 -- What the way to another place asks of the record and the buffers. Definitions only. Assumes nothing.
-use Rattle.std.specs.Prelude.{◌≡◌, List, [], ℕ, ◌+◌, ◌≤◌, Float}
+use Rattle.std.specs.Prelude.{◌≡◌, List, [], ℕ, ◌+◌, ◌≤◌, Float, Option}
 use Rattle.format.specs.Content.{max_vertices, max_triangles, max_limit, max_room}
 use Rattle.model.specs.Space.{farthest}
 use Rattle.work.specs.declared.Plan.{Plan}
 use Rattle.work.specs.declared.Stand.{Stand}
-use Rattle.work.specs.declared.Mark.{Mark}
 use Rattle.work.specs.Memory.{work, begun_again, vectors_put, to_zero}
 use Rattle.work.specs.Ready.{Ready, Standing, Roomy, MarkKeeping}
+use Rattle.work.specs.declared.Kept.{Kept}
 
 -- the filled places of the norms and the path lie within the buffers
 pub record Erasable (plan : Plan) (s : Stand) (floats path : List Float) : Type 0 where
@@ -29,7 +29,7 @@ pub record Rewinds (plan : Plan) (words : List ℕ) (s : Stand) (m : List Float)
   pub floats : m' ≡ (to_zero plan words (work m [] s)).floats
 
 -- all that the way to a place asks
-pub record Seeks (plan : Plan) (words : List ℕ) (s : Stand) (mark : Mark) (target : ℕ) (floats path : List Float) : Type 0 where
+pub record Seeks (plan : Plan) (words : List ℕ) (s : Stand) (mark : Option Kept) (target : ℕ) (floats path : List Float) : Type 0 where
   pub ready : Ready plan words
   pub standing : Standing plan s
   pub roomy : Roomy plan floats path

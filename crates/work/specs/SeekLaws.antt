@@ -1,5 +1,5 @@
 -- The way to a place starts at or before it, with the counts of a place in their ranges; so it comes to the place or to the path's end before it. Assumes nothing.
-use Rattle.std.specs.Prelude.{ℕ, zero, suc, ◌+◌, ◌-◌, ◌≤◌, ◌<◌, ◌≡◌, refl, Bool, true, false, ◌&&◌, not, List, eqb, leb, ltb, Float}
+use Rattle.std.specs.Prelude.{ℕ, zero, suc, ◌+◌, ◌-◌, ◌≤◌, ◌<◌, ◌≡◌, refl, Bool, true, false, ◌&&◌, not, List, eqb, leb, ltb, Float, Option, Some, None}
 use Rattle.std.proofs.Common.{sym, arith, leb-true, ltb-true, le-leb}
 use Rattle.std.proofs.Math.Path.{ap, subst}
 use Rattle.std.proofs.lemmas.Bool.{eqb-false, not-true}
@@ -8,7 +8,6 @@ use Rattle.model.specs.SolvedPlace.{solved_at}
 use Rattle.work.specs.declared.Plan.{Plan}
 use Rattle.work.specs.declared.Stand.{Stand}
 use Rattle.work.specs.declared.Kept.{Kept}
-use Rattle.work.specs.declared.Mark.{Mark}
 use Rattle.work.specs.declared.Origin.{Origin}
 use Rattle.work.specs.Memory.{Work, pathless, from_mark, origin_of, to_started, to_solved, to_kept, to_zero, from_origin, once, goes, seek}
 use Rattle.work.specs.Ready.{Ready, Standing, Keeping, MarkKeeping}
@@ -22,17 +21,17 @@ pick_both P true true x y p q = p refl refl
 pick_both P true false x y p q = q
 pick_both P false b x y p q = q
 
-from_mark_elim : (P : Origin → Type 0) (limit : ℕ) (mark : Mark) (target : ℕ)
-    → ((k : Kept) → mark ≡ Mark.At k → k.place ≤ target → k.norms ≤ limit → P (Origin.Kept k)) → P Origin.Zero → P (from_mark limit mark target)
-from_mark_elim P limit Mark.Nothing target kept none = none
-from_mark_elim P limit (Mark.At k) target kept none =
+from_mark_elim : (P : Origin → Type 0) (limit : ℕ) (mark : Option Kept) (target : ℕ)
+    → ((k : Kept) → mark ≡ Some k → k.place ≤ target → k.norms ≤ limit → P (Origin.Kept k)) → P Origin.Zero → P (from_mark limit mark target)
+from_mark_elim P limit None target kept none = none
+from_mark_elim P limit (Some k) target kept none =
     pick_both P (leb k.place target) (leb k.norms limit) (Origin.Kept k) Origin.Zero (λ a b. kept k refl (leb-true _ _ a) (leb-true _ _ b)) none
 
-pub origin_elim : (P : Origin → Type 0) (limit : ℕ) (s : Stand) (mark : Mark) (target : ℕ)
+pub origin_elim : (P : Origin → Type 0) (limit : ℕ) (s : Stand) (mark : Option Kept) (target : ℕ)
     → (s.place ≤ target → P Origin.Here)
     → ((s.end ≡ 0 → ⊥) → solved_at s.norms s.end < target → P Origin.Started)
     → ((s.end ≡ 0 → ⊥) → solved_at s.norms s.end ≤ target → P Origin.Solved)
-    → ((k : Kept) → mark ≡ Mark.At k → k.place ≤ target → k.norms ≤ limit → P (Origin.Kept k))
+    → ((k : Kept) → mark ≡ Some k → k.place ≤ target → k.norms ≤ limit → P (Origin.Kept k))
     → P Origin.Zero
     → P (origin_of limit s mark target)
 unfolding origin_of
@@ -68,7 +67,7 @@ first_norm : (limit : ℕ) → 1 ≤ limit + pick (eqb (pick {A = ℕ} (eqb limi
 first_norm zero = omega arith
 first_norm (suc limit) = omega arith
 
-module _ (plan : Plan) (words : List ℕ) (mark : Mark) (target : ℕ) (w : Work) where
+module _ (plan : Plan) (words : List ℕ) (mark : Option Kept) (target : ℕ) (w : Work) where
   pub from_place : (from_origin plan words (origin_of plan.limit w.stand mark target) w).stand.place ≤ target
   unfolding to_solved to_kept to_zero
   from_place =

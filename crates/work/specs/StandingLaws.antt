@@ -1,5 +1,5 @@
 -- A pass keeps the counts of a place in their ranges, and raises its number by one at most, whatever the buffers hold. Assumes nothing.
-use Rattle.std.specs.Prelude.{ℕ, zero, suc, ◌+◌, ◌-◌, ◌*◌, ◌≤◌, ◌<◌, ◌≡◌, refl, Bool, true, false, eqb, leb, Float}
+use Rattle.std.specs.Prelude.{ℕ, zero, suc, ◌+◌, ◌-◌, ◌*◌, ◌≤◌, ◌<◌, ◌≡◌, refl, Bool, true, false, eqb, leb, Float, Option, Some, None}
 use Rattle.std.proofs.Common.{sym, ap, ◌∙◌, arith, add-zero, add-suc, take-append-drop, eqb-true, leb-false}
 use mathlib.Core.List.{List}
 use Rattle.std.proofs.lemmas.Bool.{eqb-false}
@@ -10,7 +10,6 @@ use Rattle.mesh.specs.Element.{flat}
 use Rattle.mesh.specs.Work.{triangles_of, neighbours_of}
 use Rattle.conjugate.specs.Solver as Solver
 use Rattle.conjugate.specs.Solver.{Turn, halted, reached, moved}
-use Rattle.pde.specs.declared.Start.{Start}
 use Rattle.pde.specs.declared.Crossing.{Crossing}
 use Rattle.pde.specs.Path.{walked}
 use Rattle.pde.specs.PathLaws.{walked-most, walked_stands}
@@ -18,7 +17,6 @@ use Rattle.pde.specs.Bounds.{StartIn, CrossingIn, containing_in, pick_start_in, 
 use Rattle.model.specs.Space.{factor}
 use Rattle.model.specs.Run.{rule, next_by}
 use Rattle.model.proofs.PassLaws.{walked_last}
-use Rattle.work.specs.declared.Given.{Given}
 use Rattle.work.specs.declared.Gives.{Gives}
 use Rattle.work.specs.declared.Plan.{Plan}
 use Rattle.work.specs.declared.Stand.{Stand}
@@ -26,6 +24,8 @@ use Rattle.work.specs.Layout.{at_x, at_gradients, at_norms, at_neighbours, matri
 use Rattle.mesh.specs.WorkLaws.{neighbour_below}
 use Rattle.work.specs.Memory.{Stepped, stepped, vectors_in, solved_step, set_out_step, solve_step, graded, start_by, begin_step, crossing_of, walked_stand, cross_step, next_of, step_by, step_on, Work, work, front_of, once, goes}
 use Rattle.work.specs.Ready.{Ready, Standing}
+use Rattle.plane.specs.declared.Point.{Point}
+use Rattle.pde.specs.declared.Entry.{Entry}
 
 -- ---- which pass is next
 
@@ -87,9 +87,9 @@ solve_standing plan words f s st e = solved_standing plan s f (turn_of plan word
 
 -- ---- the start pass
 
-pub set_out_standing : (plan : Plan) (words : List ℕ) (s : Stand) (f : List Float) (k : ℕ) (st : Start) → Ready plan words → Standing plan s → StartIn plan.t st → Standing plan (set_out_step s f k st).stand
+pub set_out_standing : (plan : Plan) (words : List ℕ) (s : Stand) (f : List Float) (k : ℕ) (st : Option Entry) → Ready plan words → Standing plan s → StartIn plan.t st → Standing plan (set_out_step s f k st).stand
 unfolding set_out_step
-set_out_standing plan words s f k (Start.At p t e) r h b = record {
+set_out_standing plan words s f k (Some at) r h b = record {
   norms_least = h.norms_least;
   norms_most = h.norms_most;
   points_most = r.room_least;
@@ -97,7 +97,7 @@ set_out_standing plan words s f k (Start.At p t e) r h b = record {
   edge_in = b.1;
   crossings_left = λ _ _. omega (arith, b.0);
 }
-set_out_standing plan words s f k Start.Nothing r h b = record {
+set_out_standing plan words s f k None r h b = record {
   norms_least = h.norms_least;
   norms_most = h.norms_most;
   points_most = omega arith;
@@ -106,9 +106,9 @@ set_out_standing plan words s f k Start.Nothing r h b = record {
   crossings_left = λ _ z. absurd (omega arith);
 }
 
-start_standing : (plan : Plan) (words : List ℕ) (f : List Float) (s : Stand) (g : Given) → Ready plan words → Standing plan s → Standing plan (start_by plan words f s g).stand
-start_standing plan words f s (Given.At p) r st = set_out_standing plan words s (graded plan words f s) 8 _ r st (containing_in _ _ plan.t p)
-start_standing plan words f s Given.Nothing r st = set_out_standing plan words s (graded plan words f s) 9 _ r st (pick_start_in _ _ _ _ plan.t _)
+start_standing : (plan : Plan) (words : List ℕ) (f : List Float) (s : Stand) (g : Option Point) → Ready plan words → Standing plan s → Standing plan (start_by plan words f s g).stand
+start_standing plan words f s (Some p) r st = set_out_standing plan words s (graded plan words f s) 8 _ r st (containing_in _ _ plan.t p)
+start_standing plan words f s None r st = set_out_standing plan words s (graded plan words f s) 9 _ r st (pick_start_in _ _ _ _ plan.t _)
 
 begin_standing : (plan : Plan) (words : List ℕ) (f : List Float) (s : Stand) → Ready plan words → Standing plan s → Standing plan (begin_step plan words f s).stand
 unfolding begin_step
@@ -163,14 +163,14 @@ solved_place_lem plan s f halted = omega arith
 solved_place_lem plan s f (reached x r norm) = omega arith
 solved_place_lem plan s f (moved next norm) = omega arith
 
-set_out_place : (s : Stand) (f : List Float) (k : ℕ) (st : Start) → Follows s (set_out_step s f k st).stand
+set_out_place : (s : Stand) (f : List Float) (k : ℕ) (st : Option Entry) → Follows s (set_out_step s f k st).stand
 unfolding set_out_step
-set_out_place s f k (Start.At p t e) = omega arith
-set_out_place s f k Start.Nothing = omega arith
+set_out_place s f k (Some at) = omega arith
+set_out_place s f k None = omega arith
 
-start_place : (plan : Plan) (words : List ℕ) (f : List Float) (s : Stand) (g : Given) → Follows s (start_by plan words f s g).stand
-start_place plan words f s (Given.At p) = set_out_place s _ 8 _
-start_place plan words f s Given.Nothing = set_out_place s _ 9 _
+start_place : (plan : Plan) (words : List ℕ) (f : List Float) (s : Stand) (g : Option Point) → Follows s (start_by plan words f s g).stand
+start_place plan words f s (Some p) = set_out_place s _ 8 _
+start_place plan words f s None = set_out_place s _ 9 _
 
 step_follows : (plan : Plan) (words : List ℕ) (f : List Float) (s : Stand) → Follows s (step_on plan words f s).stand
 unfolding solve_step begin_step cross_step

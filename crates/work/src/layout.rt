@@ -1,10 +1,10 @@
 // Where each list of a run stands in the lent buffers.
-ghost use Rattle.std.specs.Prelude.{◌≡◌, ◌≤◌};
+ghost use Rattle.std.specs.Prelude.{◌≡◌, ◌≤◌, length};
+ghost use Rattle.sparse.specs.Matrix.{matrix_of, rows};
+ghost use Rattle.sparse.specs.Stored as Stored;
 ghost use Rattle.work.specs.Layout as Layout;
 
-use conjugate::Vectors;
-use mesh::Mesh;
-use sparse::Csr;
+use sparse::Matrix;
 
 pub fn at_gradients(n: usize, t: usize) -> usize
     requires { (n ≤ 4096) × (t ≤ 8192) }
@@ -34,41 +34,20 @@ pub fn at_x(n: usize, t: usize) -> usize
     5 * n + 9 * t
 }
 
-pub fn matrix_at(n: usize, t: usize) -> Csr
-    requires { (n ≤ 4096) × (t ≤ 8192) }
-    ensures { result ≡ Layout.matrix_at n t }
+// The matrix of n rows, with the values that stand in the floats.
+pub fn matrix<'a>(floats: &'a [f64], words: &'a [u32], n: usize, t: usize) -> Matrix<'a>
+    requires sound { Stored.Sound words.now (Layout.matrix_at n t) }
+    requires counts { (n ≤ 4096) × (t ≤ 8192) }
+    requires values { Layout.at_x n t ≤ length floats.now }
+    ensures is { matrix_of result ≡ Stored.matrix words.now floats.now (Layout.matrix_at n t) }
+    ensures long { rows result ≡ n }
 {
-    Csr {
-        starts: n + 6 * t,
-        cols: 2 * n + 6 * t + 1,
-        vals: 4 * n,
-        rows: n,
-        count: 9 * t + n,
-    }
-}
-
-pub fn mesh_at(n: usize, t: usize) -> Mesh
-    requires { (n ≤ 4096) × (t ≤ 8192) }
-    ensures { result ≡ Layout.mesh_at n t }
-{
-    Mesh {
-        n,
-        t,
-        vertices: 0,
-        triangles: 0,
-        neighbours: 3 * t,
-        tags: 6 * t,
-    }
-}
-
-pub fn vectors_at(n: usize, t: usize) -> Vectors
-    requires { (n ≤ 4096) × (t ≤ 8192) }
-    ensures { result ≡ Layout.vectors_at n t }
-{
-    Vectors {
-        x: 5 * n + 9 * t,
-        r: 6 * n + 9 * t,
-        p: 7 * n + 9 * t,
-        product: 8 * n + 9 * t,
+    let starts = n + 6 * t;
+    let cols = starts + n + 1;
+    let count = 9 * t + n;
+    Matrix {
+        starts: &words[starts..cols],
+        cols: &words[cols..cols + count],
+        values: &floats[4 * n..4 * n + count],
     }
 }

@@ -4,20 +4,14 @@
 pub mod layout;
 pub mod place;
 
-ghost use Rattle.std.specs.Prelude.{◌≡◌};
+ghost use Rattle.std.specs.Prelude.{◌≡◌, ◌≤◌, ◌||◌, ltb};
+ghost use Rattle.model.specs.Space.{float_space, word_space, path_space};
 ghost use Rattle.work.specs.Record.{new_run, no_run};
 
 use pde::Walk;
 use plane::Point;
 
-// A given start.
-#[derive(Clone, Copy)]
-pub enum Given {
-    At(Point),
-    Nothing,
-}
-
-// What a sheet says that a pass needs: its counts and settings.
+// What a sheet says that a pass needs: its counts and settings, with the given start, if there is one.
 #[derive(Clone, Copy)]
 pub struct Plan {
     pub n: usize,
@@ -26,7 +20,40 @@ pub struct Plan {
     pub room: usize,
     pub tolerance: f64,
     pub step: f64,
-    pub start: Given,
+    pub start: Option<Point>,
+}
+
+// How many places of each lent buffer: how many a run needs, by the space rule.
+#[derive(Clone, Copy)]
+pub struct Space {
+    pub floats: usize,
+    pub words: usize,
+    pub path: usize,
+}
+
+impl Plan {
+    // What a run of this plan needs.
+    pub fn space(&self) -> Space
+        requires { (self.now.n ≤ 4096) × (self.now.t ≤ 8192) × (self.now.limit ≤ 100000) × (self.now.room ≤ 1000000) }
+        ensures floats { result.floats ≡ float_space self.now.n self.now.t self.now.limit }
+        ensures words { result.words ≡ word_space self.now.n self.now.t }
+        ensures path { result.path ≡ path_space self.now.room }
+    {
+        Space {
+            floats: 12 * self.n + 12 * self.t + self.limit + 32,
+            words: 8 * self.n + 32 * self.t + 32,
+            path: 2 * self.room,
+        }
+    }
+}
+
+impl Space {
+    // Whether one of three buffers of these lengths is too short.
+    pub fn lacks(&self, floats: usize, words: usize, path: usize) -> bool
+        ensures { result ≡ (ltb floats self.now.floats || (ltb words self.now.words || ltb path self.now.path)) }
+    {
+        (floats < self.floats) | ((words < self.words) | (path < self.path))
+    }
 }
 
 // The scalars of a place: how many passes led to it, r·r, how many norms there are, the field's end, where the path stands, and how many crossings were made.
@@ -40,7 +67,7 @@ pub struct Stand {
     pub crossings: usize,
 }
 
-// What a pass gives to be written behind what is there: nothing, a norm, or points of the path.
+// What a pass gives to be written behind what is there: nothing, a norm, or points of the path. An Option of the other three would be no plainer: both are matched at once.
 #[derive(Clone, Copy)]
 pub enum Gives {
     Nothing,
@@ -64,12 +91,6 @@ pub struct Kept {
     pub norms: usize,
 }
 
-#[derive(Clone, Copy)]
-pub enum Mark {
-    Nothing,
-    At(Kept),
-}
-
 // From where a place is sought: on from here, from where the path started, from where the field ended, from the kept vectors, or from place 0.
 #[derive(Clone, Copy)]
 pub enum Origin {
@@ -80,12 +101,12 @@ pub enum Origin {
     Zero,
 }
 
-// The record of a run: its plan, where it stands, its mark, and how many passes advances have made.
+// The record of a run: its plan, where it stands, its mark, if there is one, and how many passes advances have made.
 #[derive(Clone, Copy)]
 pub struct Run {
     pub plan: Plan,
     pub stand: Stand,
-    pub mark: Mark,
+    pub mark: Option<Kept>,
     pub passes: u64,
 }
 
@@ -109,7 +130,7 @@ impl Run {
         Run {
             plan,
             stand,
-            mark: Mark::Nothing,
+            mark: None,
             passes: 0,
         }
     }
@@ -125,13 +146,13 @@ impl Run {
             room: 0,
             tolerance: 0.0,
             step: 0.0,
-            start: Given::Nothing,
+            start: None,
         };
         let stand = place::pathless(0, 0.0, 0, 0);
         Run {
             plan,
             stand,
-            mark: Mark::Nothing,
+            mark: None,
             passes: 0,
         }
     }

@@ -1,21 +1,21 @@
 -- The steps of writing a sheet: what refuses a content list by list, and what each step puts down (document 01, Length, writer, program). Definitions only.
 -- Assumes nothing.
-use Rattle.std.specs.Prelude.{ℕ, ◌+◌, ◌*◌, ◌/◌, ◌≤◌, ◌<◌, ◌^◌, ◌≡◌, Bool, true, false, List, [], ◌∷◌, eqb, length, Float}
-use Rattle.std.specs.Float.{binary64}
-use Rattle.std.specs.Float.Ieee.{to_bits}
-use Rattle.binary64.specs.Number.{pick}
-use Rattle.format.specs.declared.Whole.{Whole}
-use Rattle.format.specs.declared.Real.{Real}
+use Rattle.std.specs.Prelude.{ℕ, Option, Some, None, ◌++◌, ◌+◌, ◌*◌, ◌/◌, ◌≤◌, ◌<◌, ◌^◌, List, [], ◌∷◌, length, Float}
 use Rattle.format.specs.declared.Settings.{Settings}
-use Rattle.format.specs.declared.Setting.{Setting}
-use Rattle.format.specs.declared.Setting.TheVariants.{Limit, Tolerance, Step, StartX, StartY, Room}
+use Rattle.format.specs.declared.Setting as code
+use Rattle.format.specs.declared.Content as lending
+use Rattle.format.specs.Setting.{Setting, said}
 use Rattle.format.specs.Content.{Content, max_vertices, max_triangles}
-use Rattle.format.specs.Place.{placed}
-use Rattle.format.specs.Bytes.{all_bytes}
-use Rattle.format.specs.Refusal.{◌then◌, each, over, unlike, coordinate_fault, vertex_fault, neighbour_fault, tag_fault, present}
+use Rattle.format.specs.Bytes.{bytes}
+use Rattle.format.specs.Sheet.{item_of}
+use Rattle.format.specs.Refusal.{◌then◌, each, over, unlike, coordinate_fault, vertex_fault, neighbour_fault, tag_fault, setting_fault, present}
 
 abbrev pub content_by : List Float → List ℕ → List ℕ → List ℕ → Settings → Content
 content_by vs ts ns gs st = record { vertices = vs; triangles = ts; neighbours = ns; tags = gs; settings = st }
+
+-- a content that is lent
+abbrev pub lent : lending.Content → Content
+lent c = content_by c.vertices.now c.triangles.now c.neighbours.now c.tags.now c.settings
 
 -- ---- the steps of the refusal: a list by itself
 
@@ -38,31 +38,28 @@ mesh_refusal vs ts ns gs =
     then neighbours_refusal (length ts / 3) ns
     then tags_refusal (length vs / 2) gs
 
--- the setting of a kind
-abbrev pub whole_of : ℕ → ℕ → Setting
-whole_of kind v = pick (eqb kind 1) (Limit v) (Room v)
-
-abbrev pub real_of : ℕ → Float → Setting
-real_of kind x = pick (eqb kind 2) (Tolerance x) (pick (eqb kind 3) (Step x) (pick (eqb kind 4) (StartX x) (StartY x)))
+-- a setting that is not given is not refused
+abbrev pub slot_fault : Option code.Setting → ℕ
+slot_fault None = 0
+slot_fault (Some s) = setting_fault (said s)
 
 -- ---- the steps of the writing
 
-abbrev pub pattern_of : Real → Whole
-pattern_of Real.Absent = Whole.Absent
-pattern_of (Real.Given x) = Whole.Given (to_bits binary64 x)
+-- the settings that are given
+abbrev pub given_in : List (Option code.Setting) → List Setting
+given_in [] = []
+given_in (None ∷ slots) = given_in slots
+given_in (Some s ∷ slots) = said s ∷ given_in slots
 
--- the item of a kind, where its value is given
-abbrev pub slot_item : ℕ → Whole → List ℕ
-slot_item kind Whole.Absent = []
-slot_item kind (Whole.Given v) = (kind + 256 * v) ∷ []
+-- the item of a setting, where it is given
+abbrev pub slot_bytes : Option code.Setting → List ℕ
+slot_bytes None = []
+slot_bytes (Some s) = bytes 9 (item_of (said s))
 
-abbrev pub one_if : Bool → ℕ
-one_if true = 1
-one_if false = 0
-
-pub record PutsItem (kind : ℕ) (w : Whole) (at : ℕ) (out : List ℕ) (next : ℕ) (last : List ℕ) : Type 0 where
-  pub put : last ≡ placed out at (all_bytes 9 (slot_item kind w))
-  pub goes : next ≡ at + 9 * length (slot_item kind w)
+-- items laid down, each by its bytes
+unfoldable pub laid_all : {A : Type 0} → (A → List ℕ) → List A → List ℕ
+laid_all laid [] = []
+laid_all laid (x ∷ xs) = laid x ++ laid_all laid xs
 
 -- the counts are u32, and the sheet has room
 pub record Fits (c : Content) (space : ℕ) : Type 0 where

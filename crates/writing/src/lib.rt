@@ -3,3 +3,30 @@
 
 pub mod putting;
 pub mod refusing;
+
+ghost use Rattle.std.specs.Prelude.{◌≡◌, length};
+ghost use Rattle.format.specs.Refusal.{present};
+ghost use Rattle.writing.specs.Write.{given_in};
+
+use format::{Setting, Settings};
+
+// The six settings by rising kind, each where it is given.
+fn slots(s: Settings) -> [Option<Setting>; 6]
+    ensures { given_in result ≡ present s }
+{
+    [
+        s.limit.map(|v| Setting::Limit(v)),
+        s.tolerance.map(|x| Setting::Tolerance(x)),
+        s.step.map(|x| Setting::Step(x)),
+        s.x.map(|x| Setting::StartX(x)),
+        s.y.map(|x| Setting::StartY(x)),
+        s.room.map(|v| Setting::Room(v)),
+    ]
+}
+
+// How many settings are given.
+pub fn present_count(s: Settings) -> usize
+    ensures { result ≡ length (present s) }
+{
+    slots(s).iter().filter(|slot| slot.is_some()).count()
+}

@@ -1,204 +1,102 @@
-// What refuses a content, in the reader's order and by the reader's numbers; 0 is nothing.
+// What refuses a content, in the reader's order.
 
 ghost use Rattle.std.specs.Prelude.{◌≡◌, ◌≤◌};
-ghost use Rattle.format.specs.Refusal.{each, setting_fault, whole_setting, real_setting, present, refusal_of};
-ghost use Rattle.writing.specs.Write.{content_by, vertices_refusal, triangles_refusal, neighbours_refusal, tags_refusal, mesh_refusal, whole_of, real_of};
+ghost use Rattle.refusal.specs.Refusal.{fault};
+ghost use Rattle.format.specs.Refusal.{each, setting_fault, present, refusal_of};
+ghost use Rattle.writing.specs.Write.{lent, slot_fault, vertices_refusal, triangles_refusal, neighbours_refusal, tags_refusal, mesh_refusal};
 
-use format::{Real, Setting, Settings, Whole};
+use format::faults::{coordinate_fault, each, neighbour_fault, tag_fault, vertex_fault};
+use format::items::{missing_fault, setting_fault};
+use format::{Content, Setting, Settings};
+use refusal::Refusal;
 
-fn vertices_refusal(xs: &[f64]) -> u32
-    ensures { result ≡ vertices_refusal xs.now }
+fn vertices_refusal(xs: &[f64]) -> Result<(), Refusal>
+    ensures { fault result ≡ vertices_refusal xs.now }
 {
     let n = xs.len() / 2;
     if format::MAX_VERTICES < n {
-        return 2;
+        return Err(Refusal::TooMany);
     }
     if xs.len() != 2 * n {
-        return 3;
+        return Err(Refusal::Mismatch);
     }
-    let mut i = 0;
-    while i < xs.len() {
-        let fault = format::faults::coordinate_fault(xs[i]);
-        if fault != 0 {
-            return fault;
-        }
-        i += 1;
-    }
-    0
+    each(xs, |x| coordinate_fault(*x))
 }
 
-fn triangles_refusal(xs: &[u32], n: usize) -> u32
-    ensures { result ≡ triangles_refusal n xs.now }
+fn triangles_refusal(xs: &[u32], n: usize) -> Result<(), Refusal>
+    ensures { fault result ≡ triangles_refusal n xs.now }
 {
     let t = xs.len() / 3;
     if format::MAX_TRIANGLES < t {
-        return 2;
+        return Err(Refusal::TooMany);
     }
     if xs.len() != 3 * t {
-        return 3;
+        return Err(Refusal::Mismatch);
     }
-    let mut i = 0;
-    while i < xs.len() {
-        let fault = format::faults::vertex_fault(xs[i], n);
-        if fault != 0 {
-            return fault;
-        }
-        i += 1;
-    }
-    0
+    each(xs, |x| vertex_fault(*x, n))
 }
 
-fn neighbours_refusal(xs: &[u32], t: usize) -> u32
+fn neighbours_refusal(xs: &[u32], t: usize) -> Result<(), Refusal>
     requires { t ≤ 8192 }
-    ensures { result ≡ neighbours_refusal t xs.now }
+    ensures { fault result ≡ neighbours_refusal t xs.now }
 {
     if xs.len() != 3 * t {
-        return 3;
+        return Err(Refusal::Mismatch);
     }
-    let mut i = 0;
-    while i < xs.len() {
-        let fault = format::faults::neighbour_fault(xs[i], t);
-        if fault != 0 {
-            return fault;
-        }
-        i += 1;
-    }
-    0
+    each(xs, |x| neighbour_fault(*x, t))
 }
 
-fn tags_refusal(xs: &[u8], n: usize) -> u32
-    ensures { result ≡ tags_refusal n xs.now }
+fn tags_refusal(xs: &[u8], n: usize) -> Result<(), Refusal>
+    ensures { fault result ≡ tags_refusal n xs.now }
 {
     if xs.len() != n {
-        return 3;
+        return Err(Refusal::Mismatch);
     }
-    let mut i = 0;
-    while i < xs.len() {
-        let fault = format::faults::tag_fault(xs[i]);
-        if fault != 0 {
-            return fault;
-        }
-        i += 1;
-    }
-    0
+    each(xs, |x| tag_fault(*x))
 }
 
-fn mesh_refusal(vertices: &[f64], triangles: &[u32], neighbours: &[u32], tags: &[u8]) -> u32
-    ensures { result ≡ mesh_refusal vertices.now triangles.now neighbours.now tags.now }
-{
-    let n = vertices.len() / 2;
-    let t = triangles.len() / 3;
-    let first = vertices_refusal(vertices);
-    if first != 0 {
-        return first;
-    }
-    let second = triangles_refusal(triangles, n);
-    if second != 0 {
-        return second;
-    }
-    let third = neighbours_refusal(neighbours, t);
-    if third != 0 {
-        return third;
-    }
-    tags_refusal(tags, n)
-}
-
-// The setting of kind 1 or 6 with this value.
-fn whole_of(kind: u8, v: u64) -> Setting
-    ensures { result ≡ whole_of kind v }
-{
-    if kind == 1 {
-        Setting::Limit(v)
-    } else {
-        Setting::Room(v)
-    }
-}
-
-// The setting of kind 2, 3, 4 or 5 with this value.
-fn real_of(kind: u8, x: f64) -> Setting
-    ensures { result ≡ real_of kind x }
-{
-    if kind == 2 {
-        return Setting::Tolerance(x);
-    }
-    if kind == 3 {
-        return Setting::Step(x);
-    }
-    if kind == 4 {
-        Setting::StartX(x)
-    } else {
-        Setting::StartY(x)
-    }
-}
-
-fn whole_fault(kind: u8, w: Whole) -> u32
-    ensures { result ≡ each setting_fault (whole_setting (whole_of kind) w) }
-{
-    match w {
-        Whole::Absent => 0,
-        Whole::Given(v) => format::items::setting_fault(whole_of(kind, v)),
-    }
-}
-
-fn real_fault(kind: u8, r: Real) -> u32
-    ensures { result ≡ each setting_fault (real_setting (real_of kind) r) }
-{
-    match r {
-        Real::Absent => 0,
-        Real::Given(x) => format::items::setting_fault(real_of(kind, x)),
-    }
-}
-
-// The settings that are given, by rising kind.
-fn values_refusal(s: Settings) -> u32
-    ensures { result ≡ each setting_fault (present s) }
-{
-    let limit = s.limit;
-    let tolerance = s.tolerance;
-    let step = s.step;
-    let x = s.x;
-    let y = s.y;
-    let room = s.room;
-    let first = whole_fault(1, limit);
-    if first != 0 {
-        return first;
-    }
-    let second = real_fault(2, tolerance);
-    if second != 0 {
-        return second;
-    }
-    let third = real_fault(3, step);
-    if third != 0 {
-        return third;
-    }
-    let fourth = real_fault(4, x);
-    if fourth != 0 {
-        return fourth;
-    }
-    let fifth = real_fault(5, y);
-    if fifth != 0 {
-        return fifth;
-    }
-    whole_fault(6, room)
-}
-
-// What refuses a content.
-pub fn content_refusal(
+fn mesh_refusal(
     vertices: &[f64],
     triangles: &[u32],
     neighbours: &[u32],
     tags: &[u8],
-    settings: Settings,
-) -> u32
-    ensures { result ≡ refusal_of (content_by vertices.now triangles.now neighbours.now tags.now settings) }
+) -> Result<(), Refusal>
+    ensures { fault result ≡ mesh_refusal vertices.now triangles.now neighbours.now tags.now }
 {
-    let mesh = mesh_refusal(vertices, triangles, neighbours, tags);
-    if mesh != 0 {
-        return mesh;
+    let n = vertices.len() / 2;
+    let t = triangles.len() / 3;
+    vertices_refusal(vertices)?;
+    triangles_refusal(triangles, n)?;
+    neighbours_refusal(neighbours, t)?;
+    tags_refusal(tags, n)
+}
+
+fn slot_fault(slot: Option<Setting>) -> Result<(), Refusal>
+    ensures { fault result ≡ slot_fault slot }
+{
+    match slot {
+        Some(setting) => setting_fault(setting),
+        None => Ok(()),
     }
-    let values = values_refusal(settings);
-    if values != 0 {
-        return values;
-    }
-    format::items::missing_fault(settings)
+}
+
+// The settings that are given, by rising kind.
+fn values_refusal(s: Settings) -> Result<(), Refusal>
+    ensures { fault result ≡ each setting_fault (present s) }
+{
+    each(&crate::slots(s), |slot| slot_fault(*slot))
+}
+
+// What refuses a content.
+pub fn content_refusal(content: &Content) -> Result<(), Refusal>
+    ensures { fault result ≡ refusal_of (lent content.now) }
+{
+    mesh_refusal(
+        content.vertices,
+        content.triangles,
+        content.neighbours,
+        content.tags,
+    )?;
+    values_refusal(content.settings)?;
+    missing_fault(content.settings)
 }

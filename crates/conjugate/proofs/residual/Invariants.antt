@@ -1,16 +1,9 @@
--- `residual` meets its contract: after i turns the first i elements stand at r and at p, the first i of the product are cleared, and the rest stands as it did. Assumes nothing.
-use mathlib.Core.Path.{◌≡◌, refl}
-use Prim.Native.Nat.{◌-◌, ◌≤◌}
-use native.Mathlib.Omega.{arith}
-use borrow.Author.Rules.{rules}
-use lib.ListN.{length, length-set}
-use Rattle.conjugate.specs.Placed.{Resides}
-use Rattle.conjugate.proofs.LawsLoops.{resides_none, resides_turn}
-use Rattle.conjugate.proofs.LawsLoops.{resides_none, resides_turn}
+-- `residual` meets its contract: after i turns the first i elements of r and p are b less the product, and the first i of the product cleared. Assumes nothing.
+use Rattle.std.proofs.Common.{◌≡◌, replicate}
+use Rattle.binary64.specs.Constants.{plus_zero}
+use Rattle.stretch.specs.Stretch.{splice}
+use Rattle.conjugate.proofs.LawsLoops.{Residing}
 use Rattle.conjugate.proofs.residual.Given as goal
 
 abbrev pub invariant-loop-i : goal.invariant-loop-i
-invariant-loop-i l = (l.i ≤ l.n) × (length l.floats ≡ length l.initial.floats) × Resides l.initial.floats l.floats l.at l.b l.i l.total
-
-abbrev pub decreases-loop-i : goal.decreases-loop-i
-decreases-loop-i l = l.n - l.i
+invariant-loop-i l = Residing l.b l.initial.product l.initial.r l.initial.p l.i l.r l.p l.total × (l.product ≡ splice l.initial.product 0 (replicate l.i plus_zero))

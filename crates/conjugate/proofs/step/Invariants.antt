@@ -1,16 +1,9 @@
--- `step` meets its contract: after i turns the first i elements of x and r are moved, the first i of the product cleared, and the rest stands as it did. Assumes nothing.
-use mathlib.Core.Path.{◌≡◌, refl}
-use Prim.Native.Nat.{◌-◌, ◌≤◌}
-use native.Mathlib.Omega.{arith}
-use borrow.Author.Rules.{rules}
-use lib.ListN.{length, length-set}
-use Rattle.conjugate.specs.Placed.{Stepped}
-use Rattle.conjugate.proofs.LawsLoops.{step_none, step_turn}
-use Rattle.conjugate.proofs.LawsLoops.{step_none, step_turn}
+-- `step` meets its contract: after i turns the first i elements of x and r are moved, and the first i of the product cleared. Assumes nothing.
+use Rattle.std.proofs.Common.{◌≡◌, replicate}
+use Rattle.binary64.specs.Constants.{plus_zero}
+use Rattle.stretch.specs.Stretch.{splice}
+use Rattle.conjugate.proofs.LawsLoops.{Stepping}
 use Rattle.conjugate.proofs.step.Given as goal
 
 abbrev pub invariant-loop-i : goal.invariant-loop-i
-invariant-loop-i l = (l.i ≤ l.n) × (length l.floats ≡ length l.initial.floats) × Stepped l.initial.floats l.floats l.at l.alpha l.i l.sum
-
-abbrev pub decreases-loop-i : goal.decreases-loop-i
-decreases-loop-i l = l.n - l.i
+invariant-loop-i l = Stepping l.initial.x l.initial.r l.p l.initial.q l.alpha l.i l.x l.r l.sum × (l.q ≡ splice l.initial.q 0 (replicate l.i plus_zero))

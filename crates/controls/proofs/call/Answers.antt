@@ -1,7 +1,8 @@
 -- `call` meets its contract: each way out is one law of what a call comes to. Assumes nothing.
-use mathlib.Core.Path.{◌∙◌, sym}
-use borrow.Author.Tests.{not-true, not-false}
+use mathlib.Core.Path.{refl, ◌∙◌, sym}
+use Rattle.std.proofs.lemmas.Result.{err_from_is_err_and}
 use Rattle.records.specs.Numbers.{fits}
+use Rattle.image.proofs.RefusalLaws.{refuses_some}
 use Rattle.controls.proofs.Laws.{call_unfit, call_unflagged, call_refused, call_made}
 use borrow.Author.Rules.{rules}
 use Rattle.controls.proofs.call.Goals as goal
@@ -13,14 +14,15 @@ returns-then-not-fits c = call_unfit _ _ _ _ (sym c.fits.ensures ∙ c.if-not-fi
 pub returns-then-not-flagged : goal.returns-then-not-flagged
 unfolding fits
 returns-then-not-flagged c =
-    rw c.flag_fault.ensures (call_unflagged _ _ _ _ (sym c.fits.ensures ∙ c.if-not-fits.false) (sym c.flagged.ensures ∙ c.if-not-flagged.true) _ (c.held_fault-early.ensures ∙ rw c.run_from-before.ensures))
+    rw c.flag_refusal.ensures (call_unflagged _ _ _ _ (sym c.fits.ensures ∙ c.if-not-fits.false) (sym c.flagged.ensures ∙ c.if-not-flagged.true) _ (c.held_fault-found.ensures ∙ rw c.run_from-before.ensures))
 
-pub returns-then-answer-ne0 : goal.returns-then-answer-ne0
+pub returns-in_err-after : goal.returns-in_err-after
 unfolding fits
-returns-then-answer-ne0 c =
-    call_refused _ _ _ _ (sym c.fits.ensures ∙ c.if-not-fits.false) (sym c.flagged.ensures ∙ c.if-not-flagged.false) c.run_from-before.ensures c.perform-answer.ensures c.if-answer-ne0.true
+returns-in_err-after c =
+    let p = err_from_is_err_and c.from_residual.result c.from_residual.ensures.1 in
+    rw (p.1, p.2) (call_refused _ _ _ _ (sym c.fits.ensures ∙ c.if-not-fits.false) (sym c.flagged.ensures ∙ c.if-not-flagged.false) c.run_from-before.ensures c.in_err-after.ensures (refuses_some _))
 
 pub returns : goal.returns
 unfolding fits
 returns c =
-    call_made _ _ _ _ (sym c.fits.ensures ∙ c.if-not-fits.false) (sym c.flagged.ensures ∙ c.if-not-flagged.false) c.run_from-before.ensures c.perform-answer.ensures c.if-answer-ne0.false _ _ c.put_run.ensures.0 c.put_run.ensures.1
+    call_made _ _ _ _ (sym c.fits.ensures ∙ c.if-not-fits.false) (sym c.flagged.ensures ∙ c.if-not-flagged.false) c.run_from-before.ensures c.in_ok-after.ensures refl _ _ c.put_run.ensures.0 c.put_run.ensures.1

@@ -1,6 +1,5 @@
 -- `held_fault` meets its contract: each way out is one law. Assumes nothing.
 use mathlib.Core.Path.{◌∙◌, sym}
-use borrow.Author.Tests.{not-true, not-false}
 use Rattle.records.specs.Numbers.{fits}
 use Rattle.controls.proofs.Laws.{unfit, unflagged, sound}
 use borrow.Author.Rules.{rules}
@@ -13,9 +12,9 @@ returns-then-not-fits c = unfit _ _ _ (sym c.fits.ensures ∙ c.if-not-fits.true
 pub returns-then-flagged : goal.returns-then-flagged
 unfolding fits
 returns-then-flagged c =
-    c.held_fault-early.ensures ∙ rw c.run_from-run.ensures (sound _ _ _ (sym c.fits.ensures ∙ c.if-not-fits.false) (sym c.flagged.ensures ∙ c.if-flagged.true))
+    c.held_fault-found.ensures ∙ rw c.run_from-run.ensures (sound _ _ _ (sym c.fits.ensures ∙ c.if-not-fits.false) (sym c.flagged.ensures ∙ c.if-flagged.true))
 
 pub returns : goal.returns
 unfolding fits
 returns c =
-    c.flag_fault.ensures ∙ unflagged _ _ _ (sym c.fits.ensures ∙ c.if-not-fits.false) (sym c.flagged.ensures ∙ c.if-flagged.false) _ (c.held_fault-early.ensures ∙ rw c.run_from-run.ensures)
+    c.flag_refusal.ensures ∙ unflagged _ _ _ (sym c.fits.ensures ∙ c.if-not-fits.false) (sym c.flagged.ensures ∙ c.if-flagged.false) _ (c.held_fault-found.ensures ∙ rw c.run_from-run.ensures)

@@ -1,54 +1,26 @@
--- `space_needed` meets its contract: where nothing refuses, the counts are in their ranges, and no sum is too large. Assumes nothing.
+-- `space_needed` meets its contract: where nothing refuses, the counts are in their ranges. Assumes nothing.
 use native.Mathlib.Omega.{arith}
 use lib.ListN.{length-set}
-use mathlib.Core.Path.{◌∙◌, sym}
-use Rattle.controls.proofs.Laws.{asked, needed_refused, needed_made}
+use mathlib.Core.Path.{sym}
+use Rattle.std.proofs.lemmas.Result.{err_from_is_err_and}
+use Rattle.image.proofs.RefusalLaws.{refuses_some}
+use Rattle.controls.proofs.Laws.{asked, needed_refused}
 use borrow.Author.Rules.{rules}
 use Rattle.controls.proofs.space_needed.Goals as goal
 
-pub returns-then-refused-ne0 : goal.returns-then-refused-ne0
-returns-then-refused-ne0 c = needed_refused _ _ _ _ _ _ c.needed_fault-refused.ensures c.if-refused-ne0.true
+pub returns-in_err-needed_fault : goal.returns-in_err-needed_fault
+returns-in_err-needed_fault c =
+    let p = err_from_is_err_and c.from_residual.result c.from_residual.ensures.1 in
+    rw (p.1, p.2) (needed_refused _ _ _ _ _ _ c.in_err-needed_fault.ensures (refuses_some _))
 
-pub overflow_mul-out : goal.overflow_mul-out
-overflow_mul-out c = let h = asked _ _ _ _ _ (sym c.needed_fault-refused.ensures ∙ c.if-refused-ne0.false) in omega (arith, h.vertices, h.triangles, h.passes, h.points, h.long)
-
-pub overflow_mul-out-2 : goal.overflow_mul-out-2
-overflow_mul-out-2 c = let h = asked _ _ _ _ _ (sym c.needed_fault-refused.ensures ∙ c.if-refused-ne0.false) in omega (arith, h.vertices, h.triangles, h.passes, h.points, h.long)
-
-pub overflow_add-out : goal.overflow_add-out
-overflow_add-out c = let h = asked _ _ _ _ _ (sym c.needed_fault-refused.ensures ∙ c.if-refused-ne0.false) in omega (arith, h.vertices, h.triangles, h.passes, h.points, h.long)
-
-pub overflow_add-out-2 : goal.overflow_add-out-2
-overflow_add-out-2 c = let h = asked _ _ _ _ _ (sym c.needed_fault-refused.ensures ∙ c.if-refused-ne0.false) in omega (arith, h.vertices, h.triangles, h.passes, h.points, h.long)
-
-pub overflow_add-out-3 : goal.overflow_add-out-3
-overflow_add-out-3 c = let h = asked _ _ _ _ _ (sym c.needed_fault-refused.ensures ∙ c.if-refused-ne0.false) in omega (arith, h.vertices, h.triangles, h.passes, h.points, h.long)
+pub space-space-requires : goal.space-space-requires
+space-space-requires c = let h = asked _ _ _ _ _ (sym c.in_ok-needed_fault.ensures) in (h.vertices, h.triangles, h.passes, h.points)
 
 pub bounds-out-0 : goal.bounds-out-0
-bounds-out-0 c = let h = asked _ _ _ _ _ (sym c.needed_fault-refused.ensures ∙ c.if-refused-ne0.false) in omega (arith, h.vertices, h.triangles, h.passes, h.points, h.long)
-
-pub overflow_mul-out-3 : goal.overflow_mul-out-3
-overflow_mul-out-3 c = let h = asked _ _ _ _ _ (sym c.needed_fault-refused.ensures ∙ c.if-refused-ne0.false) in omega (arith, h.vertices, h.triangles, h.passes, h.points, h.long)
-
-pub overflow_mul-out-4 : goal.overflow_mul-out-4
-overflow_mul-out-4 c = let h = asked _ _ _ _ _ (sym c.needed_fault-refused.ensures ∙ c.if-refused-ne0.false) in omega (arith, h.vertices, h.triangles, h.passes, h.points, h.long)
-
-pub overflow_add-out-4 : goal.overflow_add-out-4
-overflow_add-out-4 c = let h = asked _ _ _ _ _ (sym c.needed_fault-refused.ensures ∙ c.if-refused-ne0.false) in omega (arith, h.vertices, h.triangles, h.passes, h.points, h.long)
-
-pub overflow_add-out-5 : goal.overflow_add-out-5
-overflow_add-out-5 c = let h = asked _ _ _ _ _ (sym c.needed_fault-refused.ensures ∙ c.if-refused-ne0.false) in omega (arith, h.vertices, h.triangles, h.passes, h.points, h.long)
+bounds-out-0 c = let h = asked _ _ _ _ _ (sym c.in_ok-needed_fault.ensures) in omega (arith, h.long)
 
 pub bounds-out-1 : goal.bounds-out-1
-bounds-out-1 c =
-    simp length-set (let h = asked _ _ _ _ _ (sym c.needed_fault-refused.ensures ∙ c.if-refused-ne0.false) in omega (arith, h.vertices, h.triangles, h.passes, h.points, h.long))
-
-pub overflow_mul-out-5 : goal.overflow_mul-out-5
-overflow_mul-out-5 c = let h = asked _ _ _ _ _ (sym c.needed_fault-refused.ensures ∙ c.if-refused-ne0.false) in omega (arith, h.vertices, h.triangles, h.passes, h.points, h.long)
+bounds-out-1 c = simp length-set (let h = asked _ _ _ _ _ (sym c.in_ok-needed_fault.ensures) in omega (arith, h.long))
 
 pub bounds-out-2 : goal.bounds-out-2
-bounds-out-2 c =
-    simp length-set (let h = asked _ _ _ _ _ (sym c.needed_fault-refused.ensures ∙ c.if-refused-ne0.false) in omega (arith, h.vertices, h.triangles, h.passes, h.points, h.long))
-
-pub returns : goal.returns
-returns c = needed_made _ _ _ _ _ c.needed_fault-refused.ensures c.if-refused-ne0.false
+bounds-out-2 c = simp length-set (let h = asked _ _ _ _ _ (sym c.in_ok-needed_fault.ensures) in omega (arith, h.long))

@@ -11,4 +11,4 @@ pub returns-in_default : goal.returns-in_default
 returns-in_default c = rw (sym c.get_ray_line_intersection-hit.ensures ∙ c.in_default.is) (put_there c.if-out-lt2.false)
 
 pub returns : goal.returns
-returns c = rw (sym c.get_ray_line_intersection-hit.ensures ∙ c.in-At.is) (put_there c.if-out-lt2.false)
+returns c = rw (sym c.get_ray_line_intersection-hit.ensures ∙ c.in-Some.is) (put_there c.if-out-lt2.false)

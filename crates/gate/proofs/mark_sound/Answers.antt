@@ -1,12 +1,11 @@
 -- `gate::mark_sound` meets its contract, by the two cases of a mark. Assumes nothing.
-use borrow.Author.Rules.{rules}
 use Rattle.image.specs.Calls.{mark_sound}
 use Rattle.gate.proofs.mark_sound.Goals as goal
 
-pub returns-in-Nothing : goal.returns-in-Nothing
+pub returns-in-None : goal.returns-in-None
 unfolding mark_sound
-returns-in-Nothing c = rw c.in-Nothing.is
+returns-in-None c = rw c.in-None.is
 
-pub returns-in-At : goal.returns-in-At
+pub returns-in-Some : goal.returns-in-Some
 unfolding mark_sound
-returns-in-At c = rw (c.in-At.is, c.farthest.ensures)
+returns-in-Some c = rw (c.in-Some.is, c.farthest.ensures)

@@ -1,6 +1,5 @@
 -- `gate::norms_most` meets its contract, by the two cases of the field's end. Assumes nothing.
 use native.Mathlib.Omega.{arith}
-use borrow.Author.Rules.{rules}
 use borrow.Author.Tests.{eq-eqb, ne_eqb}
 use Rattle.gate.proofs.norms_most.Goals as goal
 

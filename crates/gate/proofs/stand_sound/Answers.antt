@@ -1,5 +1,4 @@
 -- `gate::stand_sound` meets its contract: its test is the one of the definition, with what `farthest` and `norms_most` ensure. Assumes nothing.
-use borrow.Author.Rules.{rules}
 use Rattle.image.specs.Calls.{stand_sound}
 use Rattle.gate.proofs.stand_sound.Goals as goal
 

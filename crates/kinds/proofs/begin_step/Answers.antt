@@ -1,6 +1,5 @@
 -- `begin_step` meets its contract: the start is found before the gradients are filled, which do not bear on it. Assumes nothing.
 use Rattle.kinds.proofs.LawsKinds.{begin_leads}
-use borrow.Author.Rules.{rules}
 use Rattle.kinds.proofs.begin_step.Goals as goal
 
 pub returns : goal.returns

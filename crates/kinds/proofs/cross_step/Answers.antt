@@ -1,15 +1,13 @@
 -- `cross_step` meets its contract: the crossing and the stand after it are the definition's. Assumes nothing.
-use native.Mathlib.Omega.{arith}
-use Rattle.kinds.proofs.LawsKinds.{cross_leads}
+use Rattle.kinds.proofs.LawsKinds.{cross_leads, crossing_here}
 use Rattle.kinds.proofs.cross_step.Goals as goal
 
 pub crossing_of-c-requires : goal.crossing_of-c-requires
-crossing_of-c-requires c = let q = c.requires in (record { ready = q.steppable.ready; long = q.steppable.long }, q.steppable.standing.triangle_in q.some)
-
-pub crossed-s-requires : goal.crossed-s-requires
-crossed-s-requires c =
+crossing_of-c-requires c =
     let q = c.requires in
-    (omega (arith, q.steppable.ready.t_most), q.steppable.near, q.steppable.standing.crossings_left q.unended q.some, q.steppable.standing.points_most)
+    (record { ready = q.steppable.ready; long = q.steppable.long }, rw c.entry_of.ensures (q.steppable.standing.triangle_in q.some))
 
 pub returns : goal.returns
-returns c = cross_leads _ _ _ _ _ _ c.crossing_of-c.ensures c.crossed-s.ensures
+returns c =
+    let a = c.args in
+    cross_leads a.plan a.words.now a.front.now a.stand _ _ (crossing_here a.plan a.words.now a.front.now a.stand c.entry_of.ensures c.crossing_of-c.ensures) c.crossed.ensures

@@ -1,19 +1,22 @@
--- `crossing_of` meets its contract: the mesh, the field and the gradients stand in the front where the definition reads them. Assumes nothing.
-use Rattle.kinds.proofs.LawsKinds.{front_fielded, front_graded, triangle_in_mesh, crossing_is}
-use borrow.Author.Rules.{rules}
+-- `crossing_of` meets its contract: the field and the gradients stand in the front where the definition reads them. Assumes nothing.
+use Rattle.std.proofs.Common.{arith}
+use Rattle.kinds.proofs.LawsKinds.{front_fielded, front_gradients, long_gradients, triangle_in_mesh, crossing_is}
 use Rattle.kinds.proofs.crossing_of.Goals as goal
+
+pub of-field-requires : goal.of-field-requires
+of-field-requires c = front_fielded c.args.plan _ _ c.requires.0 _ _ c.at_x-u.ensures (omega (arith, c.requires.0.long))
 
 pub gradient_at-g-requires : goal.gradient_at-g-requires
 gradient_at-g-requires c =
-    (front_graded c.args.plan _ _ _ c.mesh_at-m.ensures c.requires.0 _ c.at_gradients-at.ensures, triangle_in_mesh _ c.args.plan _ c.mesh_at-m.ensures c.requires.1)
+    let h = c.requires.0 in
+    rw (front_gradients c.args.plan c.args.words.now c.args.front.now h _ c.at_gradients-at.ensures)
+    (omega (arith, long_gradients c.args.plan c.args.words.now c.args.front.now h, c.requires.1))
 
 pub crossing_by-requires : goal.crossing_by-requires
-crossing_by-requires c =
-    let em = c.mesh_at-m.ensures in
-    (record { ready = c.requires.0.ready; fielded = rw em at (front_fielded c.args.plan _ _ _ em c.requires.0 _ c.at_x-u.ensures) }, c.requires.1)
+crossing_by-requires c = triangle_in_mesh c.args.plan _ c.requires.0.ready c.of-field.ensures c.requires.1
 
 pub returns : goal.returns
 returns c =
-    let s = c.args in
-    crossing_is s.plan _ _ s.from s.triangle s.edge _ _ _ _ _ c.mesh_at-m.ensures c.at_x-u.ensures c.at_gradients-at.ensures
-    c.gradient_at-g.ensures c.crossing_by.ensures
+    let a = c.args in
+    crossing_is a.plan a.words.now a.front.now a.entry c.requires.0.ready c.at_x-u.ensures c.of-field.ensures
+    (front_gradients a.plan a.words.now a.front.now c.requires.0 _ c.at_gradients-at.ensures) c.gradient_at-g.ensures c.crossing_by.ensures

@@ -1,11 +1,10 @@
 -- `start_step` meets its contract: the start that is found reads the parts of the front that the definition reads. Assumes nothing.
+use Rattle.std.proofs.Common.{arith}
 use Rattle.kinds.proofs.LawsKinds.{front_fielded, start_sets_out}
-use borrow.Author.Rules.{rules}
 use Rattle.kinds.proofs.start_step.Goals as goal
 
-pub find_start-found-requires : goal.find_start-found-requires
-find_start-found-requires c = front_fielded c.args.plan _ _ _ c.mesh_at-m.ensures c.requires.0 _ c.at_x-u.ensures
+pub of-field-requires : goal.of-field-requires
+of-field-requires c = front_fielded c.args.plan _ _ c.requires.0 _ _ c.at_x-u.ensures (omega (arith, c.requires.0.long))
 
 pub returns : goal.returns
-returns c =
-    start_sets_out c.args.plan c.args.words.now c.args.front.now _ c.mesh_at-m.ensures _ _ _ _ c.at_x-u.ensures c.find_start-found.ensures c.set_out.ensures
+returns c = start_sets_out c.args.plan c.args.words.now c.args.front.now c.requires.0.ready.linked c.args.stand c.at_x-u.ensures c.of-field.ensures c.find_start.ensures c.set_out.ensures

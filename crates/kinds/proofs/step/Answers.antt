@@ -1,6 +1,5 @@
 -- `step` meets its contract: its tests of the ends choose the kind of pass that the definition chooses. Assumes nothing.
 use Rattle.kinds.proofs.LawsKinds.{steps_over, steps_solve, steps_begin, steps_cross}
-use borrow.Author.Rules.{rules}
 use Rattle.kinds.proofs.step.Goals as goal
 
 pub returns-then-walk-ne0 : goal.returns-then-walk-ne0

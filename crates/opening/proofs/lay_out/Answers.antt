@@ -1,10 +1,6 @@
 -- `lay_out` meets its contract: what was loaded is a mesh in its places, and its assembly is the content's matrix and right side. Assumes nothing.
-use borrow.Author.Rules.{rules}
-use Rattle.opening.proofs.LawsPlace.{few_read, assembles, lays_out}
+use Rattle.opening.proofs.LawsPlace.{assembles, lays_out}
 use Rattle.opening.proofs.lay_out.Goals as goal
-
-pub places_at-at-requires : goal.places_at-at-requires
-places_at-at-requires c = few_read c.requires.0
 
 pub assemble-requires : goal.assemble-requires
 assemble-requires c = assembles _ _ c.requires.0 _ _ c.requires.1 _ _ c.load.ensures _ c.places_at-at.ensures

@@ -1,8 +1,6 @@
 -- `place_zero` meets its contract: the buffers suffice for each step, and what the steps leave is the image at place 0. Assumes nothing.
 use borrow.Author.Rules.{rules}
-use mathlib.Core.Path.{◌∙◌}
 use native.Mathlib.Omega.{arith}
-use Rattle.image.specs.Calls.{buffers}
 use Rattle.opening.proofs.LawsPlace.{fits_read, path_fits, begins_read, stands}
 use Rattle.opening.proofs.place_zero.Goals as goal
 
@@ -12,14 +10,8 @@ lay_out-requires c = (c.requires.read, fits_read _ _ _ _ c.requires)
 pub begin-rs-requires : goal.begin-rs-requires
 begin-rs-requires c = begins_read _ _ _ _ c.requires _ _ c.lay_out.ensures (search rules)
 
-pub overflow_mul-plan : goal.overflow_mul-plan
-overflow_mul-plan c = omega (arith, (path_fits _ _ _ _ c.requires).0)
-
 pub fill-requires : goal.fill-requires
 fill-requires c = omega (arith, (path_fits _ _ _ _ c.requires).1)
-
-pub shape_of-floats : goal.shape_of-floats
-shape_of-floats c = c.floats-2-1.given ∙ c.floats-1.given
 
 pub returns : goal.returns
 returns c = stands _ _ _ _ c.requires _ _ _ _ _ _ c.lay_out.ensures c.begin-rs.ensures c.fill.ensures c.new.ensures

@@ -1,14 +1,9 @@
 -- `put_vertices` meets its contract. The loop's invariant: the coordinates of the vertices read so far stand at the front. Assumes nothing.
-use Rattle.sheet.specs.Items.{vertex_in}
-use Rattle.plane.specs.declared.Point.{Point}
 use Rattle.stretch.specs.Stretch.{splice}
 use Rattle.image.specs.Opening.{vertices_read}
-use Rattle.opening.proofs.LawsOpen.{put_none, put_two}
-use borrow.Author.Rules.{rules}
-use native.Mathlib.Omega.{arith}
-use mathlib.Core.Path.{◌≡◌, refl, ap}
+use mathlib.Core.Path.{◌≡◌}
 use Prim.Native.Nat.{◌-◌, ◌≤◌}
-use lib.ListN.{length, length-set}
+use lib.ListN.{length}
 use Rattle.opening.proofs.put_vertices.Given as goal
 
 abbrev pub invariant-loop-i : goal.invariant-loop-i

@@ -1,6 +1,5 @@
 -- `deliver` meets its contract: each arm writes what the definition says for it. Assumes nothing.
 use Rattle.work.proofs.Laws.{gave_nothing, gave_norm, gave_first, gave_crossed}
-use borrow.Author.Rules.{rules}
 use Rattle.pass.proofs.deliver.Goals as goal
 
 pub returns-in-Nothing : goal.returns-in-Nothing

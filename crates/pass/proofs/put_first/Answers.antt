@@ -1,5 +1,4 @@
 -- `put_first` meets its contract: two stores in a row are one write of two numbers. Assumes nothing.
-use borrow.Author.Rules.{rules}
 use Rattle.work.proofs.Laws.{put_two}
 use Rattle.pass.proofs.put_first.Goals as goal
 

@@ -1,6 +1,5 @@
 -- `plane::barycentric_interpolate` meets its contract: the weights, the clamped weights and the floored sum are what the calls ensure, and `weighted` picks by the same comparison. Assumes nothing.
 use Rattle.plane.specs.Plane.{interpolated}
-use borrow.Author.Rules.{rules}
 use Rattle.plane.proofs.barycentric_interpolate.Goals as goal
 
 pub returns-then-abs : goal.returns-then-abs

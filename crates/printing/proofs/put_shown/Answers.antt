@@ -1,5 +1,4 @@
 -- `put_shown` meets its contract: no list is longer than its buffer. Assumes nothing.
-use borrow.Author.Rules.{rules}
 use Rattle.printing.proofs.LawsText.{shown_room, shown_put}
 use Rattle.printing.proofs.put_shown.Goals as goal
 

@@ -1,7 +1,8 @@
--- `is_free` meets its contract: the tags are those of the three corners. Assumes nothing.
-use borrow.Author.Rules.{rules}
-use Rattle.laplace.proofs.LawsRight.{all_free_lem}
+use Rattle.std.proofs.Common.{rules}
+use Rattle.laplace.specs.Mesh.{free, tag_of}
+use Rattle.laplace.specs.Right.{all_free}
 use Rattle.right.proofs.is_free.Goals as goal
 
 pub returns : goal.returns
-returns c = all_free_lem _ _ _ c.args.q c.requires.1 _ _ _ c.wide.ensures c.wide-2.ensures c.wide-3.ensures
+unfolding all_free free tag_of
+returns c = search rules

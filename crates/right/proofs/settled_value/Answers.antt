@@ -1,5 +1,4 @@
 -- `settled_value` meets its contract: by cases on whether the tag holds. Assumes nothing.
-use borrow.Author.Rules.{rules}
 use borrow.Author.Tests.{ne_eqb}
 use Rattle.laplace.specs.Right.{settled_value}
 use Rattle.right.proofs.settled_value.Goals as goal

@@ -1,16 +1,16 @@
 -- `root::digit_root` meets its contract. The invariant is `Partial`: the root so far is that of the digits brought down, and the remainder what its square leaves of them.
 -- A turn is `partial_one` or `partial_zero`, by the test, and after 54 turns no digit is left. Assumes nothing.
-use Rattle.std.proofs.Common.{◌≡◌, ◌-◌, ◌^◌, ◌<◌, ◌≤◌, refl, ⊎_elim, arith}
-use Rattle.binary64.proofs.WholeRoot.{Partial, partial_none, partial_small, partial_zero, partial_one, partial_done}
+use Rattle.std.proofs.Common.{◌≡◌, ◌^◌, ◌<◌, refl, arith}
+use Rattle.binary64.proofs.WholeRoot.{partial_none, partial_small, partial_zero, partial_one, partial_done}
 use Rattle.root.proofs.digit_root.Goals as goal
-use Rattle.root.proofs.digit_root.Goals.{In-loop-i, then-trial-remainder, else-trial-remainder}
+use Rattle.root.proofs.digit_root.Goals.{In-loop, then-trial-remainder, else-trial-remainder}
 
-pub loop-i-init : goal.loop-i-init
-loop-i-init c = (omega arith, partial_none _ c.requires)
+pub loop-init : goal.loop-init
+loop-init c = (omega arith, partial_none _ c.requires)
 
 -- the root before a turn has at most 53 digits
-small : (c : In-loop-i) → c.loop-i.root < 2 ^ 53
-small c = let l = c.loop-i.invariant in partial_small l.1 c.loop-i-test.true
+small : (c : In-loop) → c.loop.root < 2 ^ 53
+small c = let l = c.loop.invariant in partial_small l.1 c.loop-test.true
 
 pub overflow_mul-remainder : goal.overflow_mul-remainder
 overflow_mul-remainder c = let s = small c in omega arith
@@ -33,15 +33,12 @@ overflow_mul-root c = let s = small c in omega arith
 pub overflow_add-root : goal.overflow_add-root
 overflow_add-root c = let s = small c.before in omega arith
 
-pub overflow_add-i : goal.overflow_add-i
-overflow_add-i c = omega arith
+pub loop-smaller : goal.loop-smaller
+loop-smaller c = omega arith
 
-pub loop-i-smaller : goal.loop-i-smaller
-loop-i-smaller c = omega arith
-
-pub loop-i-preserved : goal.loop-i-preserved
-loop-i-preserved c =
-    let l = c.loop-i in (
+pub loop-preserved : goal.loop-preserved
+loop-preserved c =
+    let l = c.loop in (
       omega arith,
       elim c.if-trial-remainder.branch [
         | then-trial-remainder w ↦ partial_one _ _ _ _ _ l.invariant.1 _ _ _ refl (omega arith) (omega arith)
@@ -50,4 +47,4 @@ loop-i-preserved c =
     )
 
 pub returns : goal.returns
-returns c = let e : c.loop-i.i ≡ 54 = omega arith in partial_done c.requires (rw e at c.loop-i.invariant.1)
+returns c = let e : c.loop.counter ≡ 54 = omega arith in partial_done c.requires (rw e at c.loop.invariant.1)

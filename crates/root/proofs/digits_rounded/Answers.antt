@@ -1,5 +1,5 @@
 -- `root::digits_rounded` meets its contract: a root of 54 digits leaves room for one more. Assumes nothing.
-use Rattle.std.proofs.Common.{◌*◌, ◌^◌, arith, rules}
+use Rattle.std.proofs.Common.{◌*◌, ◌^◌, arith}
 use Rattle.binary64.proofs.WholeRoot.{whole_root-lt}
 use Rattle.root.proofs.digits_rounded.Goals as goal
 

@@ -1,5 +1,5 @@
 -- `root::guess` meets its contract: the pattern that it reads is of a number. Nothing is claimed of the floats. Assumes nothing.
-use Rattle.std.proofs.Common.{arith, rules}
+use Rattle.std.proofs.Common.{arith}
 use Rattle.binary64.proofs.RootLaws.{number}
 use Rattle.root.proofs.guess.Goals as goal
 

@@ -1,5 +1,5 @@
 -- `root::is_root` meets its contract: the pattern is that of the exponent's half and of q + 1, which is nearest where the tests say yes (`next_is`). Assumes nothing.
-use Rattle.std.proofs.Common.{◌≡◌, ℕ, ◌+◌, ◌-◌, ◌*◌, ◌/◌, ◌^◌, ◌<◌, ◌≤◌, true, ◌&&◌, ltb, leb, sym, ◌∙◌, arith, rules, ltb-true, leb-true}
+use Rattle.std.proofs.Common.{◌≡◌, ℕ, ◌+◌, ◌-◌, ◌*◌, ◌/◌, ◌%◌, ◌^◌, ◌<◌, ◌≤◌, true, ◌&&◌, ltb, leb, sym, ◌∙◌, arith, ltb-true, leb-true}
 use mathlib.Core.Bool.{false≢true, and-eq-true_iff}
 use Rattle.binary64.proofs.RootGuess.{next_is}
 use Rattle.binary64.proofs.RootLaws.{pattern_is}
@@ -15,8 +15,8 @@ returns-then-q c = λ e. absurd (false≢true e)
 pub returns : goal.returns
 returns c = λ e.
     let operand = c.operand_of-operand in
-    let q = c.wrapping_sub_u64-q.result in
-    let rest = c.remainder-rest.result in
+    let q : ℕ = (c.args.pattern + (2 ^ 64 - ((c.args.g / 2 - 1) * 2 ^ 52 + 1))) % 2 ^ 64 in
+    let rest = c.in-Some.rest in
     let t = told q rest _ e in
     let p : c.args.pattern ≡ (c.args.g / 2 - 1) * 2 ^ 52 + (q + 1) = omega arith in
-    sym (p ∙ pattern_is c.args.g c.args.m operand.result (q + 1) operand.ensures.0 (next_is operand.result q rest operand.ensures.1 (c.remainder-rest.ensures (omega arith)) (omega arith) (omega arith)))
+    sym (p ∙ pattern_is c.args.g c.args.m operand.result (q + 1) operand.ensures.0 (next_is operand.result q rest operand.ensures.1 c.in-Some.ensures (omega arith) (omega arith)))

@@ -1,5 +1,5 @@
 -- `root::operand_of` meets its contract: the power of 2 is 1 or 2. Assumes nothing.
-use Rattle.std.proofs.Common.{arith, rules}
+use Rattle.std.proofs.Common.{arith}
 use Rattle.binary64.proofs.RootLaws.{even_operand, odd_operand}
 use Rattle.root.proofs.operand_of.Goals as goal
 

@@ -1,5 +1,5 @@
 -- `root::root_of_ordinary` meets its contract: it is the definition's second case. Assumes nothing.
-use Rattle.std.proofs.Common.{◌∙◌, rules}
+use Rattle.std.proofs.Common.{◌∙◌}
 use Rattle.binary64.proofs.RootLaws.{ordinary_is}
 use Rattle.root.proofs.root_of_ordinary.Goals as goal
 

@@ -1,5 +1,5 @@
 -- `root::root_pattern` meets its contract: `nearest_root` gives the operand's root, whatever was guessed. Assumes nothing.
-use Rattle.std.proofs.Common.{◌*◌, ◌^◌, arith, rules}
+use Rattle.std.proofs.Common.{◌*◌, ◌^◌, arith}
 use Rattle.binary64.proofs.WholeRoot.{whole_root-lt}
 use Rattle.binary64.proofs.RootLaws.{pattern_is}
 use Rattle.root.proofs.root_pattern.Goals as goal

@@ -1,49 +1,27 @@
 -- `sections::neighbours_fault` meets its contract: its head is tested, and then each number through the part behind the count.
 -- Assumes nothing.
 use borrow.Author.Rules.{rules}
-use native.Mathlib.Omega.{arith}
-use mathlib.Core.Path.{◌≡◌, sym, ap, ap₂, ◌∙◌}
-use Prim.Native.Nat.{ℕ, ◌*◌, ◌-◌}
-use mathlib.Core.List.{List}
-use lib.ListN.{length, take, drop, length-drop}
-use Rattle.format.specs.Bytes.{number, numbers}
-use Rattle.format.specs.Refusal.{each, neighbour_fault}
+use mathlib.Core.Path.{◌≡◌, ap, ◌∙◌}
+use Prim.Native.Nat.{◌*◌}
+use Rattle.std.proofs.lemmas.Result.{err_from_is_err_and}
+use Rattle.std.specs.Int.{from_le_bytes, w32}
+use Rattle.refusal.specs.Refusal.{fault}
+use Rattle.format.specs.Refusal.{neighbour_fault}
 use Rattle.format.specs.Sheet.{neighbours_fault}
-use Rattle.format.specs.SectionLaws.{Head, head_sound}
-use Rattle.sections.specs.Steps.{within}
+use Rattle.format.specs.TriesLaws.{fault_first, fault_second}
+use Rattle.format.specs.LeLaws.{from_four}
 use Rattle.sections.proofs.Heads.{unlike-rule}
-use Rattle.format.specs.SectionLaws.{part_from}
-use Rattle.format.specs.RefusalLaws.{refused_first, decided_second}
+use Rattle.sections.proofs.Scan.{scanned}
 use Rattle.sections.proofs.neighbours_fault.Goals as goal
 
-pub returns-then-head-ne0 : goal.returns-then-head-ne0
+pub returns-in_err-k : goal.returns-in_err-k
 unfolding neighbours_fault
-returns-then-head-ne0 c =
-    let a = c.args in
-    refused_first _ _ (c.head_fault-head.ensures ∙ unlike-rule (3 * a.t) 4 a.s.now) c.if-head-ne0.true
-
-pub slice_bounds-edges_fault-count : goal.slice_bounds-edges_fault-count
-slice_bounds-edges_fault-count c =
-    let a = c.args in
-    let h : Head (within (3 * a.t) (3 * a.t) 3) 4 a.s.now = head_sound (within (3 * a.t) (3 * a.t) 3) 4 a.s.now (sym c.head_fault-head.ensures ∙ c.if-head-ne0.false) in
-    omega arith
-
-pub count-requires : goal.count-requires
-count-requires c =
-    let a = c.args in
-    let h : Head (within (3 * a.t) (3 * a.t) 3) 4 a.s.now = head_sound (within (3 * a.t) (3 * a.t) 3) 4 a.s.now (sym c.head_fault-head.ensures ∙ c.if-head-ne0.false) in
-    omega arith
-
-pub edges_fault-requires : goal.edges_fault-requires
-edges_fault-requires c =
-    let a = c.args in
-    let h : Head (within (3 * a.t) (3 * a.t) 3) 4 a.s.now = head_sound (within (3 * a.t) (3 * a.t) 3) 4 a.s.now (sym c.head_fault-head.ensures ∙ c.if-head-ne0.false) in
-    let l : length (take (length a.s.now - 4) (drop 4 a.s.now)) ≡ length a.s.now - 4 = ap length (part_from 4 a.s.now) ∙ length-drop 4 a.s.now in
-    let n : c.count.result ≡ number 4 a.s.now = c.count.ensures in
-    omega arith
+returns-in_err-k c =
+    let p = err_from_is_err_and c.from_residual.result c.from_residual.ensures.1 in
+    rw (p.1, p.2) (fault_first _ _ (c.in_err-k.ensures.refused ∙ unlike-rule (3 * c.args.t) 4 c.args.s.now))
 
 pub returns : goal.returns
 unfolding neighbours_fault
 returns c =
-    let a = c.args in
-    decided_second _ _ (c.head_fault-head.ensures ∙ unlike-rule (3 * a.t) 4 a.s.now) c.if-head-ne0.false (c.edges_fault.ensures ∙ ap₂ (λ (n : ℕ) (p : List ℕ). each (neighbour_fault a.t) (numbers 4 n p)) c.count.ensures (part_from 4 a.s.now))
+    fault_second _ (c.in_ok-k.ensures.refused ∙ unlike-rule (3 * c.args.t) 4 c.args.s.now)
+    (scanned (neighbour_fault c.args.t) 4 _ _ c.args.s.now _ _ _ (λ x y p. let h : fault y ≡ neighbour_fault c.args.t (from_le_bytes w32 x) = search rules in h ∙ ap (neighbour_fault c.args.t) (from_four x)) c.numbers.ensures c.in_ok-k.ensures.counted c.each.ensures)

@@ -2,59 +2,67 @@
 -- Assumes nothing.
 use borrow.Author.Rules.{rules}
 use native.Mathlib.Omega.{arith}
-use mathlib.Core.Path.{refl}
-use Prim.Native.Nat.{◌*◌, ◌-◌}
-use lib.ListN.{get_or}
-use Rattle.sections.proofs.Reading.{Reading, Item, read_none, read_all, read_low, read-fault, read_more}
+use mathlib.Core.Path.{◌≡◌, refl, ap, ◌∙◌}
+use mathlib.Core.List.{[]}
+use Prim.Native.Nat.{ℕ, ◌-◌}
+use lib.ListN.{length, get_or, drop}
+use Rattle.std.proofs.lemmas.Result.{err_from_is_err_and}
+use Rattle.format.specs.Bytes.{number}
+use Rattle.format.specs.LeLaws.{from_eight}
+use Rattle.format.specs.Refusal.{setting_fault}
+use Rattle.sections.proofs.Reading.{Item, none_is, err_fault, ok_said, read_none, read_all, read_low, read-fault, read_more}
 use Rattle.sections.proofs.read_items.Goals as goal
 
-pub loop-i-init : goal.loop-i-init
-loop-i-init c = read_none _ _ _ c.none-settings.ensures
-
-pub overflow_mul-kind : goal.overflow_mul-kind
-overflow_mul-kind c = omega arith
-
-pub bounds-part-i : goal.bounds-part-i
-bounds-part-i c = omega arith
-
-pub overflow_mul-i : goal.overflow_mul-i
-overflow_mul-i c = omega arith
-
-pub overflow_add-i : goal.overflow_add-i
-overflow_add-i c = omega arith
-
-pub u64_at-requires : goal.u64_at-requires
-u64_at-requires c = omega arith
+pub loop-item-init : goal.loop-item-init
+loop-item-init c = read_none _ _ (none_is _ _ _ _ _ _ (search rules) (search rules) (search rules) (search rules) (search rules) (search rules))
 
 pub returns-then-kind-last : goal.returns-then-kind-last
 returns-then-kind-last c =
-    let l = c.loop-i in
-    let a = c.args in
-    let z = c.u64_at.result in
-    let e : Item a.part.now l.i (get_or a.part.now (9 * l.i) 0) z = record { small = (c.shared_slice_known-in-loop-i-1.given (9 * l.i)).fits; first = refl; rest = c.u64_at.ensures } in
-    read_low a.m a.part.now l.last l.settings l.i (get_or a.part.now (9 * l.i) 0) z l.invariant (omega arith) e (omega arith)
+    let l = c.loop-item in
+    let x = get_or c.args.items.now l.item-index [] in
+    let k = get_or x 0 0 in
+    let e : Item c.args.items.now l.item-index k (number 8 (drop 1 x)) = record { below = c.loop-item-test.true; small = omega arith; first = refl; rest = refl } in
+    read_low c.args.items.now l.last l.settings l.item-index k _ l.invariant e c.if-kind-last.true
 
-pub returns-then-fault-ne0 : goal.returns-then-fault-ne0
-returns-then-fault-ne0 c =
-    let l = c.loop-i in
-    let a = c.args in
-    let z = c.u64_at.result in
-    let e : Item a.part.now l.i (get_or a.part.now (9 * l.i) 0) z = record { small = (c.shared_slice_known-in-loop-i-1.given (9 * l.i)).fits; first = refl; rest = c.u64_at.ensures } in
-    read-fault a.m a.part.now l.last l.settings l.i (get_or a.part.now (9 * l.i) 0) z l.invariant (omega arith) e _ _ (omega arith) c.setting_of-setting.ensures c.setting_fault-fault.ensures c.if-fault-ne0.true
+pub returns-in_err-setting : goal.returns-in_err-setting
+returns-in_err-setting c =
+    let p = err_from_is_err_and c.from_residual.result c.from_residual.ensures.1 in
+    let l = c.loop-item in
+    let x = get_or c.args.items.now l.item-index [] in
+    let k = get_or x 0 0 in
+    let n : length x ≡ 9 = c.told-items l.item-index c.loop-item-test.true in
+    let o : length x - 8 ≡ 1 = omega arith in
+    let m : c.unwrap.result.now ≡ drop (length x - 8) x = search rules in
+    let v : c.from_le_bytes.result ≡ number 8 (drop 1 x) = c.from_le_bytes.ensures ∙ from_eight c.unwrap.result.now ∙ ap (number 8) (m ∙ ap (λ (i : ℕ). drop i x) o) in
+    let e : Item c.args.items.now l.item-index k c.from_le_bytes.result = record { below = c.loop-item-test.true; small = omega arith; first = refl; rest = v } in
+    rw (p.1, p.2) (read-fault c.args.items.now l.last l.settings l.item-index k _ l.invariant e _ c.if-kind-last.false (err_fault _ _ c.in_err-setting.ensures))
 
-pub overflow_add-i-in-loop-i : goal.overflow_add-i-in-loop-i
-overflow_add-i-in-loop-i c = omega arith
+pub returns-in_err-setting_fault : goal.returns-in_err-setting_fault
+returns-in_err-setting_fault c =
+    let p = err_from_is_err_and c.from_residual-in_err-setting_fault.result c.from_residual-in_err-setting_fault.ensures.1 in
+    let l = c.loop-item in
+    let x = get_or c.args.items.now l.item-index [] in
+    let k = get_or x 0 0 in
+    let n : length x ≡ 9 = c.told-items l.item-index c.loop-item-test.true in
+    let o : length x - 8 ≡ 1 = omega arith in
+    let m : c.unwrap.result.now ≡ drop (length x - 8) x = search rules in
+    let v : c.from_le_bytes.result ≡ number 8 (drop 1 x) = c.from_le_bytes.ensures ∙ from_eight c.unwrap.result.now ∙ ap (number 8) (m ∙ ap (λ (i : ℕ). drop i x) o) in
+    let e : Item c.args.items.now l.item-index k c.from_le_bytes.result = record { below = c.loop-item-test.true; small = omega arith; first = refl; rest = v } in
+    rw (p.1, p.2)
+    (read-fault c.args.items.now l.last l.settings l.item-index k _ l.invariant e _ c.if-kind-last.false
+    (c.in_err-setting_fault.ensures ∙ ap setting_fault (ok_said _ _ c.in_ok-setting.ensures)))
 
-pub loop-i-smaller : goal.loop-i-smaller
-loop-i-smaller c = omega arith
-
-pub loop-i-preserved : goal.loop-i-preserved
-loop-i-preserved c =
-    let l = c.loop-i in
-    let a = c.args in
-    let z = c.u64_at.result in
-    let e : Item a.part.now l.i (get_or a.part.now (9 * l.i) 0) z = record { small = (c.shared_slice_known-in-loop-i-1.given (9 * l.i)).fits; first = refl; rest = c.u64_at.ensures } in
-    read_more a.m a.part.now l.last l.settings l.i (get_or a.part.now (9 * l.i) 0) z l.invariant (omega arith) e _ _ _ (omega arith) c.setting_of-setting.ensures c.setting_fault-fault.ensures c.if-fault-ne0.false c.add-settings.ensures
+pub loop-item-preserved : goal.loop-item-preserved
+loop-item-preserved c =
+    let l = c.loop-item in
+    let x = get_or c.args.items.now l.item-index [] in
+    let k = get_or x 0 0 in
+    let n : length x ≡ 9 = c.told-items l.item-index c.loop-item-test.true in
+    let o : length x - 8 ≡ 1 = omega arith in
+    let m : c.unwrap.result.now ≡ drop (length x - 8) x = search rules in
+    let v : c.from_le_bytes.result ≡ number 8 (drop 1 x) = c.from_le_bytes.ensures ∙ from_eight c.unwrap.result.now ∙ ap (number 8) (m ∙ ap (λ (i : ℕ). drop i x) o) in
+    let e : Item c.args.items.now l.item-index k c.from_le_bytes.result = record { below = c.loop-item-test.true; small = omega arith; first = refl; rest = v } in
+    read_more c.args.items.now l.last l.settings l.item-index k _ l.invariant e _ _ c.if-kind-last.false (ok_said _ _ c.in_ok-setting.ensures) c.in_ok-setting_fault.ensures c.add-settings.ensures
 
 pub returns : goal.returns
-returns c = read_all _ _ _ _ _ c.loop-i.invariant c.loop-i-test.false
+returns c = read_all _ _ _ _ c.loop-item.invariant c.loop-item-test.false

@@ -1,52 +1,29 @@
 -- `sections::settings` meets its contract: its head is tested, and then its items are read through the part behind the count.
 -- Assumes nothing.
-use Rattle.sections.specs.Steps.{items_read, settings_read}
-use Rattle.sections.proofs.Steps.{settings_read_lem}
-use borrow.Author.Rules.{rules}
-use native.Mathlib.Omega.{arith}
-use mathlib.Core.Path.{◌≡◌, sym, ap, ap₂, ◌∙◌}
-use Prim.Native.Nat.{ℕ, ◌-◌}
-use mathlib.Core.List.{List}
-use lib.ListN.{length, take, drop, length-drop}
+use mathlib.Core.Path.{sym, ap, ◌∙◌}
+use mathlib.Core.List.{map}
+use Prim.Native.Nat.{ℕ}
+use lib.ListN.{drop}
+use Rattle.std.proofs.lemmas.Result.{err_from_is_err_and}
 use Rattle.format.specs.Bytes.{number, numbers}
 use Rattle.format.specs.Sheet.{settings_fault}
-use Rattle.format.specs.SectionLaws.{Head, head_sound}
-use Rattle.sections.specs.Steps.{within}
+use Rattle.format.specs.TriesLaws.{fault_first}
+use Rattle.format.specs.LeLaws.{numbers_pieces}
+use Rattle.sections.specs.Steps.{items_read, settings_read}
 use Rattle.sections.proofs.Heads.{over-rule}
-use Rattle.format.specs.SectionLaws.{part_from}
-use Rattle.format.specs.RefusalLaws.{refused_first}
-use Rattle.sections.proofs.Steps.{items_refused}
+use Rattle.sections.proofs.Reading.{refused_by}
+use Rattle.sections.proofs.Steps.{settings_read_lem}
 use Rattle.sections.proofs.settings.Goals as goal
 
-pub returns-then-head-ne0 : goal.returns-then-head-ne0
+pub returns-in_err-m : goal.returns-in_err-m
 unfolding settings_read settings_fault
-returns-then-head-ne0 c =
-    let a = c.args in
-    items_refused _ _ (refused_first _ _ (c.head_fault-head.ensures ∙ over-rule 6 9 a.s.now) c.if-head-ne0.true) c.if-head-ne0.true
-
-pub slice_bounds-read_items-count : goal.slice_bounds-read_items-count
-slice_bounds-read_items-count c =
-    let a = c.args in
-    let h : Head (within 0 6 2) 9 a.s.now = head_sound (within 0 6 2) 9 a.s.now (sym c.head_fault-head.ensures ∙ c.if-head-ne0.false) in
-    omega arith
-
-pub count-requires : goal.count-requires
-count-requires c =
-    let a = c.args in
-    let h : Head (within 0 6 2) 9 a.s.now = head_sound (within 0 6 2) 9 a.s.now (sym c.head_fault-head.ensures ∙ c.if-head-ne0.false) in
-    omega arith
-
-pub read_items-requires : goal.read_items-requires
-read_items-requires c =
-    let a = c.args in
-    let h : Head (within 0 6 2) 9 a.s.now = head_sound (within 0 6 2) 9 a.s.now (sym c.head_fault-head.ensures ∙ c.if-head-ne0.false) in
-    let l : length (take (length a.s.now - 4) (drop 4 a.s.now)) ≡ length a.s.now - 4 = ap length (part_from 4 a.s.now) ∙ length-drop 4 a.s.now in
-    let n : c.count.result ≡ number 4 a.s.now = c.count.ensures in
-    omega arith
+returns-in_err-m c =
+    let p = err_from_is_err_and c.from_residual.result c.from_residual.ensures.1 in
+    rw (p.1, p.2) (refused_by _ _ (fault_first _ _ (c.in_err-m.ensures.refused ∙ over-rule 6 9 c.args.s.now)))
 
 pub returns : goal.returns
 returns c =
-    let a = c.args in
+    let s = c.args.s.now in
     c.read_items.ensures
-    ∙ ap₂ (λ (n : ℕ) (p : List ℕ). items_read (numbers 9 n p)) c.count.ensures (part_from 4 a.s.now)
-    ∙ settings_read_lem a.s.now (sym (over-rule 6 9 a.s.now) ∙ sym c.head_fault-head.ensures ∙ c.if-head-ne0.false)
+    ∙ ap items_read (ap (map (number 9)) c.numbers.ensures ∙ numbers_pieces 9 c.in_ok-m.m (drop 4 s) ∙ ap (λ (n : ℕ). numbers 9 n (drop 4 s)) c.in_ok-m.ensures.counted)
+    ∙ settings_read_lem s (sym (c.in_ok-m.ensures.refused ∙ over-rule 6 9 s))

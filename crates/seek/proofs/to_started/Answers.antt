@@ -1,12 +1,9 @@
 -- `to_started` meets its contract: the path is erased, and the first point from the field's end is put down; no norm is given. Assumes nothing.
-use mathlib.Core.Path.{sym, ◌∙◌}
+use mathlib.Core.Path.{◌∙◌}
 use lib.Seq.{length-take-le}
 use Rattle.seek.proofs.LawsSeek.{started_near, started_writable, started_comes}
 use borrow.Author.Rules.{rules}
 use Rattle.seek.proofs.to_started.Goals as goal
-
-pub slice_bounds-start_step-end-2 : goal.slice_bounds-start_step-end-2
-slice_bounds-start_step-end-2 c = sym (length-take-le _ _ (search rules))
 
 pub start_step-d-requires : goal.start_step-d-requires
 start_step-d-requires c =

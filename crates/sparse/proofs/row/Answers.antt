@@ -1,34 +1,24 @@
--- `row` meets its contract: each term gives the next partial sum. Assumes nothing.
-use Prim.Native.Nat.{◌+◌}
-use native.Mathlib.Omega.{arith}
-use borrow.Author.Rules.{rules}
-use Rattle.sparse.proofs.LawsProduct.{entry-fits, sum_none, sum_step}
+-- `row` meets its contract: each term leaves less, and what is left is the whole. Assumes nothing.
+use Rattle.std.proofs.Common.{arith, refl, ◌∙◌}
+use Rattle.binary64.specs.Constants.{plus_zero}
+use Rattle.sparse.specs.Sparse.{row_product}
+use Rattle.sparse.proofs.LawsRow.{left_none, left_step, left_lent, row_drop}
 use Rattle.sparse.proofs.row.Goals as goal
 
-pub term-a-requires : goal.term-a-requires
-term-a-requires c = entry-fits _ c.requires (omega arith) (omega arith)
-
-pub term-b-requires : goal.term-b-requires
-term-b-requires c = entry-fits _ c.requires (omega arith) (omega arith)
-
-pub term-c-requires : goal.term-c-requires
-term-c-requires c = entry-fits _ c.requires (omega arith) (omega arith)
-
-pub term-d-requires : goal.term-d-requires
-term-d-requires c = entry-fits _ c.requires (omega arith) (omega arith)
-
-pub term-e-requires : goal.term-e-requires
-term-e-requires c = entry-fits _ c.requires (omega arith) (omega arith)
-
 pub rest_of_few-requires : goal.rest_of_few-requires
-rest_of_few-requires c =
-    let from = c.args.from in
-    let s0 = sum_none c.args.values.now c.args.x.now c.requires in
-    let s1 = sum_step (from + 1) s0 (omega arith) (omega arith) c.term-a.ensures in
-    let s2 = sum_step (from + 2) s1 (omega arith) (omega arith) c.term-b.ensures in
-    let s3 = sum_step (from + 3) s2 (omega arith) (omega arith) c.term-c.ensures in
-    let s4 = sum_step (from + 4) s3 (omega arith) (omega arith) c.term-d.ensures in
-    sum_step (from + 5) s4 (omega arith) (omega arith) c.term-e.ensures
+rest_of_few-requires c = row_drop _ _ c.requires 5 (omega arith)
 
-pub rest-requires : goal.rest-requires
-rest-requires c = sum_none _ _ c.requires
+pub returns-then-cols-ge5 : goal.returns-then-cols-ge5
+unfolding row_product
+returns-then-cols-ge5 c =
+    let args = c.args in
+    let row = c.requires in
+    let s1 = left_step 1 (left_none args.cols.now args.values.now args.x.now plus_zero) row (omega arith) refl c.term-a.ensures in
+    let s2 = left_step 2 s1 row (omega arith) refl c.term-b.ensures in
+    let s3 = left_step 3 s2 row (omega arith) refl c.term-c.ensures in
+    let s4 = left_step 4 s3 row (omega arith) refl c.term-d.ensures in
+    c.rest_of_few.ensures ∙ left_lent (left_step 5 s4 row (omega arith) refl c.term-e.ensures)
+
+pub returns : goal.returns
+unfolding row_product
+returns c = c.rest.ensures

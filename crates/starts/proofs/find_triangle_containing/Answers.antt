@@ -1,21 +1,23 @@
--- `begin::find_triangle_containing` meets its contract: before triangle t, what is left of the search is the whole of it. Assumes nothing.
-use mathlib.Core.Path.{◌≡◌, sym, ◌∙◌}
-use Prim.Native.Nat.{◌-◌, ◌≤◌}
-use native.Mathlib.Omega.{arith}
-use borrow.Author.Rules.{rules}
-use Rattle.mesh.specs.Work.{vertices_of, triangles_of}
-use Rattle.pde.specs.Start.{contained_in, triangle_containing}
-use Rattle.starts.proofs.StartLaws.{start_left, start_skip, start_found, start_done, containing_all, contained, contained_not}
+-- `find_triangle_containing` meets its contract: what `find` finds is the first triangle that contains the point. Assumes nothing.
+use Rattle.std.proofs.Common.{ℕ, Bool, ◌∙◌, rules, tests, arith}
+use Rattle.std.proofs.lemmas.Iterator.{YieldsList-from_range}
+use Rattle.std.proofs.lemmas.Iterator.Search.{find_from_yields_List}
+use Rattle.pde.specs.Start.{no_edge, contains, triangle_containing, contained_in}
+use Rattle.pde.specs.SearchLaws.{found_first, none_first}
 use Rattle.starts.proofs.find_triangle_containing.Goals as goal
 
-pub loop-t-init : goal.loop-t-init
-loop-t-init c = (omega arith, containing_all _ _ _ _)
-
-pub returns-then-contains : goal.returns-then-contains
-returns-then-contains c = start_found _ _ _ c.loop-t-test.true (contained _ _ _ _ (sym c.contains.ensures ∙ c.if-contains.true)) c.loop-t.invariant.1
-
-pub loop-t-preserved : goal.loop-t-preserved
-loop-t-preserved c = (omega arith, start_skip _ _ _ c.loop-t-test.true (contained_not _ _ _ _ (sym c.contains.ensures ∙ c.if-contains.false)) c.loop-t.invariant.1)
-
 pub returns : goal.returns
-returns c = start_done _ _ _ c.loop-t-test.false c.loop-t.invariant.1
+unfolding triangle_containing contained_in
+returns c =
+    let n = c.triangle_count.result in
+    let test : ℕ → Bool = λ t. contains c.args.mesh.now.vertices.now c.args.mesh.now.triangles.now c.args.p t in
+    let found = find_from_yields_List test _ _ c.find.result c.find.ensures.ran (YieldsList-from_range 0 n n (cc) (omega arith)) (λ x b q k. search (rules, tests)) in
+    rw (← c.triangle_count.ensures) (found_first (λ t. record { point = c.args.p; triangle = t; edge = no_edge }) test n found c.in_ok-triangle.was)
+
+pub returns-in_err-triangle : goal.returns-in_err-triangle
+unfolding triangle_containing contained_in
+returns-in_err-triangle c =
+    let n = c.triangle_count.result in
+    let test : ℕ → Bool = λ t. contains c.args.mesh.now.vertices.now c.args.mesh.now.triangles.now c.args.p t in
+    let found = find_from_yields_List test _ _ c.find.result c.find.ensures.ran (YieldsList-from_range 0 n n (cc) (omega arith)) (λ x b q k. search (rules, tests)) in
+    rw (← c.triangle_count.ensures) (c.from_residual.ensures ∙ none_first (λ t. record { point = c.args.p; triangle = t; edge = no_edge }) test n found c.in_err-triangle.was)

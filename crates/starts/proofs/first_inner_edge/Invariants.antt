@@ -1,15 +1,12 @@
--- `begin::first_inner_edge` meets its contract: before triangle t, what is left of the search is the whole of it. Assumes nothing.
-use mathlib.Core.Path.{◌≡◌, sym, ◌∙◌}
-use Prim.Native.Nat.{◌-◌, ◌≤◌}
-use native.Mathlib.Omega.{arith}
-use borrow.Author.Rules.{rules}
-use Rattle.mesh.specs.Work.{vertices_of, triangles_of, neighbours_of, tags_of}
+-- `first_inner_edge` meets its contract: before a triangle, what is left of the search is the whole of it. Assumes nothing.
+use Rattle.std.proofs.Common.{◌≡◌}
+use Rattle.mesh.specs.Mesh.{triangle_count}
+use Rattle.pde.specs.SearchLaws.{left_of}
 use Rattle.pde.specs.Start.{inner_edge_of, first_inner}
-use Rattle.starts.proofs.StartLaws.{start_left, start_skip, start_found, start_done, first_inner-all}
 use Rattle.starts.proofs.first_inner_edge.Given as goal
 
 abbrev pub invariant-loop-t : goal.invariant-loop-t
-invariant-loop-t l = (l.t ≤ l.count) × (first_inner (vertices_of l.floats l.m) (triangles_of l.words l.m) (neighbours_of l.words l.m) (tags_of l.words l.m) l.count ≡ start_left (inner_edge_of (vertices_of l.floats l.m) (triangles_of l.words l.m) (neighbours_of l.words l.m) (tags_of l.words l.m)) l.t l.count)
-
-abbrev pub decreases-loop-t : goal.decreases-loop-t
-decreases-loop-t l = l.count - l.t
+invariant-loop-t l =
+    let m = l.mesh in
+    let n = triangle_count m.triangles.now in
+    first_inner m.vertices.now m.triangles.now m.neighbours.now m.tags.now n ≡ left_of (inner_edge_of m.vertices.now m.triangles.now m.neighbours.now m.tags.now) l.t n

@@ -1,21 +1,34 @@
--- `begin::first_with` meets its contract: before triangle t, what is left of the search is the whole of it. Assumes nothing.
-use mathlib.Core.Path.{◌≡◌, sym, ◌∙◌}
-use Prim.Native.Nat.{◌-◌, ◌≤◌}
-use native.Mathlib.Omega.{arith}
-use borrow.Author.Rules.{rules}
-use Rattle.mesh.specs.Work.{vertices_of, triangles_of}
-use Rattle.pde.specs.Start.{centroid_with, first_with}
-use Rattle.starts.proofs.StartLaws.{start_left, start_skip, start_found, start_done, with_all, with_is, with_not}
+-- `first_with` meets its contract: what `find` finds is the first triangle that has the vertex, and the centroid is what the call ensures. Assumes nothing.
+use Rattle.std.proofs.Common.{ℕ, Bool, ◌∙◌, rules, tests, arith}
+use Rattle.std.proofs.lemmas.Iterator.{YieldsList-from_range}
+use Rattle.std.proofs.lemmas.Iterator.Search.{find_from_yields_List}
+use Rattle.pde.specs.Start.{no_edge, has, centroid, centroid_with, first_with}
+use Rattle.pde.specs.SearchLaws.{found_first, none_first, found_below}
 use Rattle.starts.proofs.first_with.Goals as goal
 
-pub loop-t-init : goal.loop-t-init
-loop-t-init c = (omega arith, with_all _ _ _ _)
-
-pub returns-then-has_vertex : goal.returns-then-has_vertex
-returns-then-has_vertex c = start_found _ _ _ c.loop-t-test.true (with_is _ _ _ _ (sym c.has_vertex.ensures ∙ c.if-has_vertex.true) c.centroid.ensures) c.loop-t.invariant.1
-
-pub loop-t-preserved : goal.loop-t-preserved
-loop-t-preserved c = (omega arith, start_skip _ _ _ c.loop-t-test.true (with_not _ _ _ _ (sym c.has_vertex.ensures ∙ c.if-has_vertex.false)) c.loop-t.invariant.1)
+pub centroid-requires : goal.centroid-requires
+centroid-requires c =
+    let n = c.triangle_count.result in
+    let test : ℕ → Bool = λ t. has c.args.mesh.now.triangles.now c.args.v t in
+    let found = find_from_yields_List test _ _ c.find.result c.find.ensures.ran (YieldsList-from_range 0 n n (cc) (omega arith)) (λ x b q k. search (rules, tests)) in
+    rw (← c.triangle_count.ensures) (found_below test n found c.in_ok-triangle.was)
 
 pub returns : goal.returns
-returns c = start_done _ _ _ c.loop-t-test.false c.loop-t.invariant.1
+unfolding first_with centroid_with
+returns c =
+    let n = c.triangle_count.result in
+    let m = c.args.mesh.now in
+    let test : ℕ → Bool = λ t. has m.triangles.now c.args.v t in
+    let found = find_from_yields_List test _ _ c.find.result c.find.ensures.ran (YieldsList-from_range 0 n n (cc) (omega arith)) (λ x b q k. search (rules, tests)) in
+    rw (← c.triangle_count.ensures, c.centroid.ensures)
+    (found_first (λ t. record { point = centroid m.vertices.now m.triangles.now t; triangle = t; edge = no_edge }) test n found c.in_ok-triangle.was)
+
+pub returns-in_err-triangle : goal.returns-in_err-triangle
+unfolding first_with centroid_with
+returns-in_err-triangle c =
+    let n = c.triangle_count.result in
+    let m = c.args.mesh.now in
+    let test : ℕ → Bool = λ t. has m.triangles.now c.args.v t in
+    let found = find_from_yields_List test _ _ c.find.result c.find.ensures.ran (YieldsList-from_range 0 n n (cc) (omega arith)) (λ x b q k. search (rules, tests)) in
+    rw (← c.triangle_count.ensures)
+    (c.from_residual.ensures ∙ none_first (λ t. record { point = centroid m.vertices.now m.triangles.now t; triangle = t; edge = no_edge }) test n found c.in_err-triangle.was)

@@ -1,5 +1,4 @@
 -- `begin::has_vertex` meets its contract: corners are what the accessor ensures, and each return follows the first test that settles the disjunction. Assumes nothing.
-use borrow.Author.Rules.{rules}
 use borrow.Author.Tests.{eq-eqb, ne_eqb}
 use Rattle.starts.proofs.has_vertex.Goals as goal
 

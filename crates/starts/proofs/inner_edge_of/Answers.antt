@@ -1,21 +1,32 @@
--- `begin::inner_edge_of` meets its contract: before edge e, what is left of the search is the whole of it. Assumes nothing.
-use mathlib.Core.Path.{◌≡◌, sym, ◌∙◌}
-use Prim.Native.Nat.{◌-◌, ◌≤◌}
-use native.Mathlib.Omega.{arith}
-use borrow.Author.Rules.{rules}
-use Rattle.mesh.specs.Work.{vertices_of, triangles_of, neighbours_of, tags_of}
-use Rattle.pde.specs.Start.{inner_edge, inner_edge_of}
-use Rattle.starts.proofs.StartLaws.{start_left, start_skip, start_found, start_done, inner-all, inner_is, inner_not}
+-- `inner_edge_of` meets its contract: what `find` finds is the first inner edge, and the middle is what the call ensures. Assumes nothing.
+use Rattle.std.proofs.Common.{ℕ, Bool, ◌∙◌, rules, tests, arith}
+use Rattle.std.proofs.lemmas.Iterator.{YieldsList-from_range}
+use Rattle.std.proofs.lemmas.Iterator.Search.{find_from_yields_List}
+use Rattle.pde.specs.Start.{is_inner, middle, inner_edge, inner_edge_of}
+use Rattle.pde.specs.SearchLaws.{found_first, none_first, found_below}
 use Rattle.starts.proofs.inner_edge_of.Goals as goal
 
-pub loop-e-init : goal.loop-e-init
-loop-e-init c = (omega arith, inner-all _ _ _ _ _)
-
-pub returns-then-is_inner : goal.returns-then-is_inner
-returns-then-is_inner c = start_found _ _ _ c.loop-e-test.true (inner_is _ _ _ _ _ _ (sym c.is_inner.ensures ∙ c.if-is_inner.true) c.middle.ensures) c.loop-e.invariant.1
-
-pub loop-e-preserved : goal.loop-e-preserved
-loop-e-preserved c = (omega arith, start_skip _ _ _ c.loop-e-test.true (inner_not _ _ _ _ _ _ (sym c.is_inner.ensures ∙ c.if-is_inner.false)) c.loop-e.invariant.1)
+pub middle-requires : goal.middle-requires
+middle-requires c =
+    let m = c.args.mesh.now in
+    let test : ℕ → Bool = λ e. is_inner m.triangles.now m.neighbours.now m.tags.now c.args.t e in
+    let found = find_from_yields_List test _ _ c.find.result c.find.ensures.ran (YieldsList-from_range 0 3 3 (cc) (omega arith)) (λ x b q k. search (rules, tests)) in
+    (c.requires, found_below test 3 found c.in_ok-edge.was)
 
 pub returns : goal.returns
-returns c = start_done _ _ _ c.loop-e-test.false c.loop-e.invariant.1
+unfolding inner_edge_of inner_edge
+returns c =
+    let m = c.args.mesh.now in
+    let test : ℕ → Bool = λ e. is_inner m.triangles.now m.neighbours.now m.tags.now c.args.t e in
+    let found = find_from_yields_List test _ _ c.find.result c.find.ensures.ran (YieldsList-from_range 0 3 3 (cc) (omega arith)) (λ x b q k. search (rules, tests)) in
+    rw c.middle.ensures
+    (found_first (λ e. record { point = middle m.vertices.now m.triangles.now c.args.t e; triangle = c.args.t; edge = e }) test 3 found c.in_ok-edge.was)
+
+pub returns-in_err-edge : goal.returns-in_err-edge
+unfolding inner_edge_of inner_edge
+returns-in_err-edge c =
+    let m = c.args.mesh.now in
+    let test : ℕ → Bool = λ e. is_inner m.triangles.now m.neighbours.now m.tags.now c.args.t e in
+    let found = find_from_yields_List test _ _ c.find.result c.find.ensures.ran (YieldsList-from_range 0 3 3 (cc) (omega arith)) (λ x b q k. search (rules, tests)) in
+    c.from_residual.ensures
+    ∙ none_first (λ e. record { point = middle m.vertices.now m.triangles.now c.args.t e; triangle = c.args.t; edge = e }) test 3 found c.in_err-edge.was

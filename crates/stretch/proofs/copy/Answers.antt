@@ -1,19 +1,7 @@
--- `copy` meets its contract: after i turns the buffer is what it was, with the first i of the stretch from src at `at`, and what is read next is as it was. Assumes nothing.
-use mathlib.Core.Path.{◌≡◌, refl}
-use Prim.Native.Nat.{◌-◌, ◌≤◌}
-use native.Mathlib.Omega.{arith}
-use borrow.Author.Rules.{rules}
-use lib.ListN.{length}
-use Rattle.stretch.specs.Stretch.{part, splice}
-use Rattle.stretch.proofs.LoopLaws.{copy_none, copy_step}
+-- `copy` meets its contract: what std's `copy_within` leaves is the splice. Assumes nothing.
+use Rattle.std.proofs.Common.{◌+◌, ◌∙◌, refl}
+use Rattle.stretch.proofs.LoopLaws.{pasted_is}
 use Rattle.stretch.proofs.copy.Goals as goal
 
-pub loop-i-init : goal.loop-i-init
-loop-i-init c = (omega arith, refl, copy_none _ _ _)
-
-pub loop-i-preserved : goal.loop-i-preserved
-loop-i-preserved c =
-    (omega arith, search rules, copy_step _ _ _ _ _ _ _ c.requires c.loop-i-test.true c.loop-i.invariant.2)
-
 pub returns : goal.returns
-returns c = let e : c.loop-i.i ≡ c.args.n = omega arith in rw e at c.loop-i.invariant.2
+returns g c = c.copy_within.ensures.after ∙ pasted_is c.args.s.now c.args.src (c.args.src + c.args.n) c.args.at c.args.n refl c.requires.from c.requires.to

@@ -1,18 +1,17 @@
--- `dot` meets its contract: after i turns the sum is the dot product of the first i numbers of both stretches. Assumes nothing.
-use mathlib.Core.Path.{◌≡◌}
-use Prim.Native.Nat.{◌-◌, ◌≤◌}
-use native.Mathlib.Omega.{arith}
-use borrow.Author.Rules.{rules}
-use Rattle.stretch.specs.Stretch.{part}
-use Rattle.stretch.specs.Vec as Vec
-use Rattle.stretch.proofs.VecLaws.{dot_none, dot_step}
+-- `dot` meets its contract: the fold over the pairs is the dot product. Assumes nothing.
+use Rattle.std.proofs.Common.{rules, ◌∙◌}
+use Rattle.std.specs.Prelude.{Float}
+use Rattle.std.proofs.lemmas.Iterator.{YieldsList-from_slice, YieldsList-from_zip}
+use Rattle.std.proofs.lemmas.Iterator.Consumers.{fold_from_yields_List}
+use Rattle.binary64.specs.Arith.{◌⊕◌, ◌⊗◌}
+use Rattle.binary64.specs.Constants.{plus_zero}
+use Rattle.stretch.proofs.VecLaws.{fold-zip}
 use Rattle.stretch.proofs.dot.Goals as goal
 
-pub loop-i-init : goal.loop-i-init
-loop-i-init c = (omega arith, dot_none _ _ _ _)
-
-pub loop-i-preserved : goal.loop-i-preserved
-loop-i-preserved c = (omega arith, dot_step _ _ _ _ _ _ (omega arith) (omega arith) (search rules))
-
 pub returns : goal.returns
-returns c = let e : c.loop-i.i ≡ c.args.n = omega arith in rw e at c.loop-i.invariant.1
+returns c =
+    let args = c.args in
+    fold_from_yields_List _ (λ (z : Float) (p : Float × Float). z ⊕ p.0 ⊗ p.1) plus_zero _ c.fold.ensures.ran
+    (YieldsList-from_zip (YieldsList-from_slice args.a.now (search rules)) (YieldsList-from_slice args.b.now (search rules)))
+    (λ z p r q h. search rules)
+    ∙ fold-zip args.a.now args.b.now

@@ -1,15 +1,7 @@
--- `fill` meets its contract: after i turns the buffer is what it was, with i times v from `at`. Assumes nothing.
-use mathlib.Core.Path.{◌≡◌, refl}
-use Prim.Native.Nat.{◌-◌, ◌≤◌}
-use native.Mathlib.Omega.{arith}
-use borrow.Author.Rules.{rules}
-use lib.ListN.{length, replicate}
+-- `fill` meets its contract: after i turns the first i places of the stretch are v. Assumes nothing.
+use Rattle.std.proofs.Common.{◌≡◌, replicate}
 use Rattle.stretch.specs.Stretch.{splice}
-use Rattle.stretch.proofs.LoopLaws.{write_none, fill_step}
 use Rattle.stretch.proofs.fill.Given as goal
 
-abbrev pub invariant-loop-i : goal.invariant-loop-i
-invariant-loop-i l = (l.i ≤ l.n) × (length l.s ≡ length l.initial.s) × (l.s ≡ splice l.initial.s l.at (replicate l.i l.v))
-
-abbrev pub decreases-loop-i : goal.decreases-loop-i
-decreases-loop-i l = l.n - l.i
+abbrev pub invariant-loop-place : goal.invariant-loop-place
+invariant-loop-place g l = l.place-items ≡ splice l.initial.place-items 0 (replicate l.place-index l.v)

@@ -1,20 +1,10 @@
--- `format::faults::pattern_fault` meets its contract: a NaN's pattern is told before it is read, and `of_bits` of it is a NaN.
+-- `format::faults::pattern_fault` meets its contract: what refuses the pattern refuses the number.
 -- Assumes nothing.
-use borrow.Author.Rules.{rules}
-use mathlib.Core.Path.{sym, ◌∙◌, subst}
-use mathlib.Core.Bool.{Bool, not}
-use lib.Dec.{T}
-use lib.Ieee.{binary64, of_bits}
-use lib.Ieee.Bits.{nan_bits_is}
-use Rattle.binary64.specs.Number.{pick}
-use Rattle.format.specs.Refusal.{coordinate}
-use Rattle.format.specs.RefusalLaws.{pick_true}
+use Rattle.std.proofs.lemmas.Result.{err_from_is_err_and}
+use Rattle.format.proofs.Laws.{coordinate_refused}
 use Rattle.format.proofs.faults.pattern_fault.Goals as goal
 
-pub returns-then-nan_pattern : goal.returns-then-nan_pattern
-returns-then-nan_pattern c =
-    let x = of_bits binary64 c.args.bits in
-    sym (pick_true 6 (pick (coordinate x) 0 7) (sym (nan_bits_is binary64 _) ∙ sym c.nan_pattern.ensures ∙ c.if-nan_pattern.true))
-
-pub float_from_bits-bits : goal.float_from_bits-bits
-float_from_bits-bits c = subst (λ (t : Bool). T (not t)) (sym (sym c.nan_pattern.ensures ∙ c.if-nan_pattern.false)) tt
+pub returns-in_err-number_of : goal.returns-in_err-number_of
+returns-in_err-number_of c =
+    let p = err_from_is_err_and c.from_residual.result c.from_residual.ensures.1 in
+    rw (p.1, p.2) (coordinate_refused c.args.bits _ c.in_err-number_of.ensures)

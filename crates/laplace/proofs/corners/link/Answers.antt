@@ -1,32 +1,45 @@
-use native.Mathlib.Omega.{arith}
-use borrow.Author.Rules.{rules}
-use Rattle.laplace.proofs.LawsCorners.{Linkable, Linking, scan_none, scan_again, scan_done, next_below}
-use lib.ListN.{length-set}
-use Rattle.laplace.proofs.corners.link.Reads as reads
-use Rattle.laplace.proofs.corners.link.Lts as lts
-use Rattle.laplace.proofs.corners.index.Reads as index_Reads
-use Rattle.stretch.proofs.fill_words.Reads as fill-words-reads
+-- The heads are those of the corners passed, and their links stand. Assumes nothing.
+use Rattle.std.proofs.Common.{rules, arith, ℕ, sym, ap, ◌∙◌, ◌≡◌, length, ◌-◌}
+use Rattle.std.proofs.Math.ListN.{drop}
+use Rattle.laplace.specs.Corners.{heads_from}
+use Rattle.laplace.proofs.LawsCorners.{below_at, scan_none, scan-no_links, scan_heads, scan_links, scan_done}
 use Rattle.laplace.proofs.corners.link.Goals as goal
 
--- src/corners.rt:35:5
-pub loop-k-init : goal.loop-k-init
-loop-k-init c = scan_none _ _ _ _ c.args.at c.requires c.fill_words.ensures
+pub loop-c-init : goal.loop-c-init
+loop-c-init c =
+    let ts = c.args.triangles.now in
+    record {
+      within = omega arith;
+      heads =
+          c.fill.ensures.after (λ y h. search rules) ∙ sym (scan_none ts (length c.args.heads.now) (length ts) (omega arith))
+          ∙ ap (λ (n : ℕ). heads_from (length ts) (drop (length ts) ts) n) (sym c.fill.ensures.len);
+      links = sym (scan-no_links _ _ _ (omega arith));
+    }
 
--- src/corners.rt:38:25
-pub index-requires : goal.index-requires
-index-requires c = let inv = c.loop-k.invariant in (omega arith, next_below _ _ _ _ _ _ _ inv.0 _ c.loop-k-test.true inv.1)
+pub bounds-heads-v : goal.bounds-heads-v
+bounds-heads-v c = omega (arith, below_at _ c.args.triangles.now (c.loop-c.c - 1) c.requires.corners (omega arith))
 
--- src/corners.rt:41:9
-pub bounds-words-h-in-loop-k : goal.bounds-words-h-in-loop-k
-bounds-words-h-in-loop-k c = simp length-set (omega arith)
+pub bounds-heads-v-in-loop-c : goal.bounds-heads-v-in-loop-c
+bounds-heads-v-in-loop-c c = omega (arith, below_at _ c.args.triangles.now (c.loop-c.c - 1) c.requires.corners (omega arith))
 
--- src/corners.rt:35:5
-pub loop-k-preserved : goal.loop-k-preserved
-loop-k-preserved c =
-    let inv = c.loop-k.invariant in
-    (inv.0, rw c.index.ensures.0 (scan_again _ _ _ _ _ _ _ inv.0 _ c.loop-k-test.true inv.1))
+pub loop-c-preserved : goal.loop-c-preserved
+loop-c-preserved c =
+    let s = c.loop-c.invariant in
+    let b = rw (← c.fill.ensures.len) at c.requires.corners in
+    record {
+      within = omega arith;
+      heads = scan_heads _ _ _ _ b c.loop-c-test.true s.within s.heads;
+      links = scan_links _ _ _ _ _ _ b c.loop-c-test.true s.within s.heads s.links;
+    }
 
--- src/corners.rt:26:1
-pub returns : goal.returns
-returns c =
-    scan_done _ _ _ _ _ c.args.at _ (omega arith) c.requires c.fill_words.ensures c.loop-k.invariant.1
+pub returns-clause-first : goal.returns-clause-first
+returns-clause-first c =
+    let s = c.loop-c.invariant in
+    let z : c.loop-c.c ≡ 0 = omega arith in
+    rw (z, c.fill.ensures.len) at s.heads
+
+pub returns-clause-next : goal.returns-clause-next
+returns-clause-next c =
+    let s = c.loop-c.invariant in
+    let z : c.loop-c.c ≡ 0 = omega arith in
+    rw z at s.links ∙ scan_done c.args.triangles.now c.args.links.now c.requires.places

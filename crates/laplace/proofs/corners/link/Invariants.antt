@@ -1,15 +1,12 @@
-use native.Mathlib.Omega.{arith}
-use borrow.Author.Rules.{rules}
-use Rattle.laplace.proofs.LawsCorners.{Linkable, Linking, scan_none, scan_again, scan_done, next_below}
-use lib.ListN.{length-set}
-use Rattle.laplace.proofs.corners.link.Reads as reads
-use Rattle.laplace.proofs.corners.link.Lts as lts
-use Rattle.laplace.proofs.corners.index.Reads as index_Reads
-use Rattle.stretch.proofs.fill_words.Reads as fill-words-reads
+use Rattle.std.proofs.Common.{◌≡◌, length, ◌≤◌}
+use Rattle.std.proofs.Math.ListN.{drop}
+use Rattle.stretch.specs.Stretch.{splice}
+use Rattle.laplace.specs.Corners.{heads_from, links_from}
 use Rattle.laplace.proofs.corners.link.Given as goal
 
-abbrev pub invariant-loop-k : goal.invariant-loop-k
-invariant-loop-k l = Linkable l.initial.words l.n l.t l.triangles l.heads l.links × Linking l.initial.words l.words l.n l.t l.triangles l.heads l.links l.k
-
-abbrev pub decreases-loop-k : goal.decreases-loop-k
-decreases-loop-k l = l.k
+abbrev pub invariant-loop-c : goal.invariant-loop-c
+invariant-loop-c l = record {
+  within : l.c ≤ length l.triangles;
+  heads : l.heads ≡ heads_from l.c (drop l.c l.triangles) (length l.initial.heads);
+  links : l.links ≡ splice l.initial.links l.c (links_from l.c (drop l.c l.triangles));
+}

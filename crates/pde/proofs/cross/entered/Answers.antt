@@ -1,21 +1,27 @@
 -- `cross::entered` meets its contract: `entered` picks by the same test of the neighbour, and the sides are what the searches ensure, so they point into the mesh. Assumes nothing.
-use mathlib.Core.Path.{◌∙◌}
-use borrow.Author.Rules.{rules}
-use Rattle.mesh.specs.WorkLaws.{neighbour_below}
-use Rattle.pde.proofs.LeavingLaws.{entered-cut, entered_back}
+use Rattle.std.proofs.lemmas.Bool.{eqb-false}
+use Rattle.mesh.specs.WorkLaws.{none_over, some_over, over_below}
+use Rattle.pde.specs.Crossing.{entered}
+use Rattle.pde.specs.Bounds.{cut_in, entry_in}
 use Rattle.pde.proofs.cross.entered.Goals as goal
-
-pub returns-then-next-eq-NONE : goal.returns-then-next-eq-NONE
-returns-then-next-eq-NONE c =
-    let p = c.requires in
-    entered-cut _ _ _ _ _ _ _ p.3 c.if-next-eq-NONE.true c.find_cut_edge_match.ensures
 
 pub entry_edge_of-requires : goal.entry_edge_of-requires
 entry_edge_of-requires c =
-    let p = c.requires in
-    (p.0, rw (c.wide.ensures, p.3) (neighbour_below p.0 _ _ p.1 p.2 (λ e. c.if-next-eq-NONE.false (p.3 ∙ e))))
+    let over = some_over _ c.in-Some.ensures in
+    rw over.1 (over_below c.args.mesh.now.whole _ _ c.requires.0 c.requires.1 (eqb-false _ _ over.0))
 
-pub returns : goal.returns
-returns c =
-    let p = c.requires in
-    entered_back _ _ _ _ _ _ _ (neighbour_below p.0) p.1 p.2 p.3 c.if-next-eq-NONE.false c.wide.ensures c.entry_edge_of.ensures
+pub returns-in-None-clause-is : goal.returns-in-None-clause-is
+unfolding entered
+returns-in-None-clause-is c = rw (none_over _ c.in-None.ensures) c.find_cut_edge_match.ensures
+
+pub returns-in-None-clause-inside : goal.returns-in-None-clause-inside
+returns-in-None-clause-inside c = rw c.find_cut_edge_match.ensures (cut_in _ _ _ _ _)
+
+pub returns-in-Some-clause-is : goal.returns-in-Some-clause-is
+unfolding entered
+returns-in-Some-clause-is c = let over = some_over _ c.in-Some.ensures in rw (over.0, ← over.1) c.entry_edge_of.ensures
+
+pub returns-in-Some-clause-inside : goal.returns-in-Some-clause-inside
+returns-in-Some-clause-inside c =
+    let over = some_over _ c.in-Some.ensures in
+    rw c.entry_edge_of.ensures (entry_in _ _ _ _ (rw over.1 (over_below c.args.mesh.now.whole _ _ c.requires.0 c.requires.1 (eqb-false _ _ over.0))))

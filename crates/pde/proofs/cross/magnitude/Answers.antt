@@ -1,5 +1,4 @@
 -- `cross::magnitude` meets its contract: it is the root that `sqrt` ensures, of the definition's sum. Assumes nothing.
-use borrow.Author.Rules.{rules}
 use Rattle.pde.specs.Crossing.{magnitude}
 use Rattle.pde.proofs.cross.magnitude.Goals as goal
 

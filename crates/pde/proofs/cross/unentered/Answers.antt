@@ -1,12 +1,12 @@
 -- `cross::unentered` meets its contract: `unentered` picks by the same test. Assumes nothing.
-use borrow.Author.Tests.{eq-eqb, ne_eqb}
+use Rattle.mesh.specs.WorkLaws.{none_over, some_over}
 use Rattle.pde.specs.Crossing.{unentered}
 use Rattle.pde.proofs.cross.unentered.Goals as goal
 
-pub returns-then-next-eq-NONE : goal.returns-then-next-eq-NONE
+pub returns-in-None : goal.returns-in-None
 unfolding unentered
-returns-then-next-eq-NONE c = rw (eq-eqb _ _ c.if-next-eq-NONE.true)
+returns-in-None c = rw (none_over _ c.in-None.ensures)
 
-pub returns : goal.returns
+pub returns-in-Some : goal.returns-in-Some
 unfolding unentered
-returns c = rw (ne_eqb _ _ c.if-next-eq-NONE.false)
+returns-in-Some c = rw (some_over _ c.in-Some.ensures).0

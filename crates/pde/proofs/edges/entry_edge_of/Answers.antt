@@ -1,22 +1,22 @@
--- `edges::entry_edge_of` meets its contract: before edge e, what is left of the search is the whole of it. Assumes nothing.
-use mathlib.Core.Path.{◌≡◌, sym, ◌∙◌}
-use Prim.Native.Nat.{◌-◌, ◌≤◌}
-use native.Mathlib.Omega.{arith}
-use borrow.Author.Rules.{rules}
-use Rattle.mesh.specs.Work.{neighbours_of}
-use Rattle.pde.specs.declared.Side.{Side}
+-- `edges::entry_edge_of` meets its contract: what `find` finds is the first edge whose neighbour is the one before. Assumes nothing.
+use Rattle.std.proofs.Common.{ℕ, Bool, ◌∙◌, rules, tests, arith, eqb}
+use Rattle.std.proofs.lemmas.Iterator.{YieldsList-from_range}
+use Rattle.std.proofs.lemmas.Iterator.Search.{find_from_yields_List}
+use Rattle.mesh.specs.Mesh.{neighbour}
 use Rattle.pde.specs.Exit.{names_back, entry_edge}
-use Rattle.pde.proofs.EdgeLaws.{side_left, side_skip, side_found, side_done, entry-all, names, names_not}
+use Rattle.pde.specs.SearchLaws.{found_first, none_first}
 use Rattle.pde.proofs.edges.entry_edge_of.Goals as goal
 
-pub loop-e-init : goal.loop-e-init
-loop-e-init c = (omega arith, entry-all _ _ _)
-
-pub returns-then-next-prev : goal.returns-then-next-prev
-returns-then-next-prev c = side_found _ _ _ _ c.loop-e-test.true (names _ _ _ _ (sym c.neighbour.ensures ∙ sym c.wide-next.ensures ∙ c.if-next-prev.true)) c.loop-e.invariant.1
-
-pub loop-e-preserved : goal.loop-e-preserved
-loop-e-preserved c = (omega arith, side_skip _ _ _ _ c.loop-e-test.true (names_not _ _ _ _ (λ h. c.if-next-prev.false (c.wide-next.ensures ∙ c.neighbour.ensures ∙ h))) c.loop-e.invariant.1)
-
 pub returns : goal.returns
-returns c = sym (side_done _ _ _ _ c.loop-e-test.false c.loop-e.invariant.1)
+unfolding entry_edge names_back
+returns c =
+    let test : ℕ → Bool = λ e. eqb (neighbour c.args.mesh.now.neighbours.now c.args.t e) c.args.prev in
+    let found = find_from_yields_List test _ _ c.find.result c.find.ensures.ran (YieldsList-from_range 0 3 3 (cc) (omega arith)) (λ x b q k. search (rules, tests)) in
+    found_first (λ e. record { triangle = c.args.t; edge = e }) test 3 found c.in_ok-edge.was
+
+pub returns-in_err-edge : goal.returns-in_err-edge
+unfolding entry_edge names_back
+returns-in_err-edge c =
+    let test : ℕ → Bool = λ e. eqb (neighbour c.args.mesh.now.neighbours.now c.args.t e) c.args.prev in
+    let found = find_from_yields_List test _ _ c.find.result c.find.ensures.ran (YieldsList-from_range 0 3 3 (cc) (omega arith)) (λ x b q k. search (rules, tests)) in
+    c.from_residual.ensures ∙ none_first (λ e. record { triangle = c.args.t; edge = e }) test 3 found c.in_err-edge.was

@@ -1,14 +1,19 @@
 -- `replay` meets its contract, by the theorem over lists of calls. Assumes nothing.
+use mathlib.Core.Path.{refl}
+use Rattle.std.proofs.lemmas.Result.{err_from_is_err_and}
 use Rattle.format.specs.Bytes.{Bytes}
+use Rattle.image.proofs.RefusalLaws.{refuses_some}
 use Rattle.image.proofs.ReplayTheorem.{replayed-refused}
 use Rattle.image.proofs.Theorem.{replay_open}
 use borrow.Author.Rules.{rules}
 use Rattle.run.proofs.replaying.replay.Goals as goal
 
-pub returns-then-opened-ne0 : goal.returns-then-opened-ne0
-returns-then-opened-ne0 c = replayed-refused _ _ _ _ _ _ c.open-opened.ensures c.if-opened-ne0.true
+pub returns-in_err-run : goal.returns-in_err-run
+returns-in_err-run c =
+    let p = err_from_is_err_and c.from_residual.result c.from_residual.ensures.1 in
+    rw (p.1, p.2) (replayed-refused _ _ _ _ _ _ c.in_err-run.ensures (refuses_some _))
 
 pub returns : goal.returns
 returns c =
     let bytes : Bytes c.args.sheet.now = record { below = λ i. (c.shared_slice_known-1.given i).fits } in
-    replay_open _ _ _ _ bytes _ _ _ _ _ c.open-opened.ensures c.if-opened-ne0.false c.make-last.ensures
+    replay_open _ _ _ _ bytes _ _ _ _ _ c.in_ok-run.ensures refl c.make-last.ensures

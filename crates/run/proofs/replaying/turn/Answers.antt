@@ -30,4 +30,4 @@ pub returns : goal.returns
 returns c =
     let a = c.args in
     turned (lent_at a.calls.now a.i) _ _ _ _ _ _ _ _ _ _ c.least-f.ensures c.least-w.ensures
-    c.least-p.ensures c.perform.ensures
+    c.least-p.ensures (rw c.from-call.ensures at c.perform.ensures)

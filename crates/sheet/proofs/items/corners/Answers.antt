@@ -1,6 +1,5 @@
 -- `sheet::items::corners` meets its contract: the three numbers of a triangle that is whole are read, and else the answer is 0.
 -- Assumes nothing.
-use borrow.Author.Rules.{rules}
 use mathlib.Core.Path.{sym, ◌∙◌}
 use borrow.Author.Tests.{lt-ltb, le-ltb}
 use Rattle.format.specs.RefusalLaws.{pick_true, pick_false}

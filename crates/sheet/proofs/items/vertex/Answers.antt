@@ -1,6 +1,5 @@
 -- `sheet::items::vertex` meets its contract: a point that is whole is read, and else the answer is (+0, +0).
 -- Assumes nothing.
-use borrow.Author.Rules.{rules}
 use mathlib.Core.Path.{sym, ap₂, ◌∙◌}
 use borrow.Author.Tests.{lt-ltb, le-ltb}
 use Rattle.format.specs.RefusalLaws.{pick_true, pick_false}

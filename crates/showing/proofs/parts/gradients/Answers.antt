@@ -1,21 +1,14 @@
 -- `showing::parts::gradients` meets its contract. Assumes nothing.
-use mathlib.Core.Path.{◌∙◌}
-use native.Mathlib.Omega.{arith}
+use mathlib.Core.Path.{sym, ◌∙◌}
 use borrow.Author.Rules.{rules}
 use Rattle.image.specs.Parts.{gradients_of}
-use Rattle.showing.proofs.LawsParts.{many_vertices, many_triangles, counted-all}
+use Rattle.showing.proofs.LawsParts.{uncounted, counted_all}
 use Rattle.showing.proofs.parts.gradients.Goals as goal
 
-pub returns-then-plan-gt4096 : goal.returns-then-plan-gt4096
+pub returns-then-not-counted : goal.returns-then-not-counted
 unfolding gradients_of
-returns-then-plan-gt4096 c = many_vertices c.args.run.plan _ (omega arith)
-
-pub returns-then-plan-gt8192 : goal.returns-then-plan-gt8192
-unfolding gradients_of
-returns-then-plan-gt8192 c = many_triangles c.args.run.plan _ (omega arith) (omega arith)
+returns-then-not-counted c = uncounted c.args.run.plan _ (sym c.counted.ensures ∙ c.if-not-counted.true)
 
 pub returns : goal.returns
 unfolding gradients_of
-returns c =
-    let p = c.args.run.plan in
-    c.within.ensures ∙ rw c.at_gradients.ensures (counted-all p _ (omega arith) (omega arith))
+returns c = c.within.ensures ∙ rw c.at_gradients.ensures (counted_all c.args.run.plan _ (sym c.counted.ensures ∙ c.if-not-counted.false))

@@ -4,11 +4,14 @@ use borrow.Author.Rules.{rules}
 use Rattle.showing.proofs.LawsParts.{within_none, within_all}
 use Rattle.showing.proofs.parts.within.Goals as goal
 
-pub returns-then-floats-at : goal.returns-then-floats-at
-returns-then-floats-at c = within_none _ _ _ (omega arith)
+pub returns-in_default : goal.returns-in_default
+returns-in_default c = within_none _ _ _ (omega (arith, c.in_default.ensures.lookup))
 
-pub returns-then-floats-at-2 : goal.returns-then-floats-at-2
-returns-then-floats-at-2 c = within_none _ _ _ (omega arith)
+pub returns-in_default-get : goal.returns-in_default-get
+returns-in_default-get c = within_none _ _ _ (omega (arith, c.in-Some.ensures.lookup, c.in_default-get.ensures.lookup))
 
 pub returns : goal.returns
-returns c = within_all _ _ _ (omega arith)
+returns c =
+    let rest = c.in-Some.ensures.lookup.0 in
+    let part = c.in-Some-get.ensures.lookup.0 in
+    within_all _ _ _ _ _ rest.2 rest.3 part.1 part.2

@@ -1,5 +1,4 @@
 -- `text::digits::glyph` meets its contract. Assumes nothing.
-use borrow.Author.Rules.{rules}
 use native.Mathlib.Omega.{arith}
 use Rattle.text.specs.TextLaws.{glyph-low, glyph_high}
 use Rattle.text.proofs.digits.glyph.Goals as goal

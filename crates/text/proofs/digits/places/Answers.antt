@@ -2,7 +2,7 @@
 -- Assumes nothing.
 use mathlib.Core.Path.{◌≡◌}
 use native.Mathlib.Omega.{arith}
-use Prim.Native.Nat.{suc, ◌+◌, ◌/◌, ◌≤◌}
+use Prim.Native.Nat.{suc, ◌/◌, ◌≤◌}
 use Rattle.text.specs.Text.{places}
 use Rattle.text.specs.TextLaws.{places_few, places-more, places-most}
 use Rattle.text.proofs.digits.places.Goals as goal

@@ -1,10 +1,8 @@
 -- `text::digits::places` meets its contract: each digit taken off is counted, and what is left has one less.
 -- Assumes nothing.
 use mathlib.Core.Path.{◌≡◌}
-use native.Mathlib.Omega.{arith}
-use Prim.Native.Nat.{suc, ◌+◌, ◌/◌, ◌≤◌}
+use Prim.Native.Nat.{◌+◌, ◌≤◌}
 use Rattle.text.specs.Text.{places}
-use Rattle.text.specs.TextLaws.{places_few, places-more, places-most}
 use Rattle.text.proofs.digits.places.Given as goal
 
 abbrev pub invariant-loop-rest : goal.invariant-loop-rest

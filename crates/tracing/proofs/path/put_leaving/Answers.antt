@@ -1,24 +1,18 @@
 -- `path::put_leaving` meets its contract: nothing is written where the points would not fit the room, and else they and the closing point. Assumes nothing.
-use Rattle.std.proofs.Common.{arith, rules}
+use Rattle.std.proofs.Common.{arith}
 use Rattle.pde.specs.PathLaws.{closes-most}
 use Rattle.tracing.proofs.PointLaws.{put_full, put_on}
-use Rattle.tracing.proofs.path.put_leaving.Reads as reads
-use Rattle.tracing.proofs.path.put_leaving.Lts as lts
-use Rattle.tracing.proofs.path.closes.Reads as closes-reads
-use Rattle.tracing.proofs.path.inside.Reads as inside-reads
-use Rattle.tracing.proofs.path.put_closing.Reads as put-closing-reads
-use Rattle.tracing.proofs.path.put_points.Reads as put-points-reads
 use Rattle.tracing.proofs.path.put_leaving.Goals as goal
 
 pub overflow_add-k : goal.overflow_add-k
-overflow_add-k c = record { fits = omega (arith, closes-most c.args.b, c.closes.ensures, c.inside-between.ensures, c.ranges.n) }
+overflow_add-k c = record { fits = omega (arith, closes-most c.args.b, c.closes.ensures, c.saturating_sub-between.ensures, c.ranges.n) }
 
 pub returns-then-room-points : goal.returns-then-room-points
 returns-then-room-points c =
     let a = c.args in
-    put_full a.room a.w a.q a.n a.b c.inside-between.ensures c.closes.ensures c.requires.held _ c.if-room-points.true
+    put_full a.room a.w a.q a.n a.b c.saturating_sub-between.ensures c.closes.ensures c.requires.held _ c.if-room-points.true
 
 pub returns : goal.returns
 returns c =
     let a = c.args in
-    put_on a.room a.w a.q a.n a.b c.inside-between.ensures c.closes.ensures c.requires.held _ c.if-room-points.false c.put_points.ensures c.put_closing.ensures
+    put_on a.room a.w a.q a.n a.b c.saturating_sub-between.ensures c.closes.ensures c.requires.held _ c.if-room-points.false c.put_points.ensures c.put_closing.ensures

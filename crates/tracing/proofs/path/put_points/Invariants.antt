@@ -1,7 +1,6 @@
 -- `path::put_points` meets its contract: after i turns the buffer is what it was, with the first i points from `at`. Assumes nothing.
-use Rattle.std.proofs.Common.{◌≡◌, ◌-◌, ◌≤◌, length, refl, arith, length-set, rules}
+use Rattle.std.proofs.Common.{◌≡◌, ◌-◌, ◌≤◌, length}
 use Rattle.pde.specs.Path.{coordinates_of, along}
-use Rattle.tracing.proofs.PointLaws.{along_none, along_step, along_done}
 use Rattle.stretch.specs.Stretch.{splice}
 use Rattle.tracing.proofs.path.put_points.Given as goal
 

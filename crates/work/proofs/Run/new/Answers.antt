@@ -1,6 +1,5 @@
 -- `Run::new` meets its contract: its stand is that of place 0. Assumes nothing.
 use Rattle.work.proofs.LawsPlace.{new_is}
-use borrow.Author.Rules.{rules}
 use Rattle.work.proofs.Run.new.Goals as goal
 
 pub returns : goal.returns

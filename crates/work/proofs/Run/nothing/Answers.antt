@@ -1,8 +1,6 @@
 -- `Run::nothing` meets its contract: the scalars of a place with no path. Assumes nothing.
-use borrow.Author.Rules.{rules}
 use mathlib.Core.Path.{ap}
 use Rattle.work.specs.declared.Stand.{Stand}
-use Rattle.work.specs.declared.Run.{Run}
 use Rattle.work.specs.Record.{no_run}
 use Rattle.work.proofs.Run.nothing.Goals as goal
 

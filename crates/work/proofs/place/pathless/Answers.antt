@@ -1,5 +1,4 @@
 -- `pathless` meets its contract: its walk is that of no path. Assumes nothing.
-use borrow.Author.Rules.{rules}
 use Rattle.work.proofs.LawsPlace.{stood_nowhere}
 use Rattle.work.proofs.place.pathless.Goals as goal
 

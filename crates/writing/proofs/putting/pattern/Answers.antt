@@ -1,17 +1,8 @@
--- `writing::putting::pattern` meets its contract: a NaN differs from itself, and `to_bits` writes the quiet one for it.
+-- `writing::putting::pattern` meets its contract: `to_bits` writes the quiet NaN for any.
 -- Assumes nothing.
-use borrow.Author.Rules.{rules}
-use mathlib.Core.Path.{sym, ap, ◌∙◌, subst}
-use mathlib.Core.Bool.{Bool, not}
-use lib.Dec.{T}
-use lib.Ieee.{binary64, to_bits}
-use lib.Ieee.Compare.{differs_from_itself}
-use Rattle.format.proofs.Laws.{ne_self}
+use mathlib.Core.Path.{sym, ◌∙◌}
+use Rattle.writing.proofs.Puts.{quiet}
 use Rattle.writing.proofs.putting.pattern.Goals as goal
 
-pub returns-then-x : goal.returns-then-x
-unfolding to_bits
-returns-then-x c = sym (ap (to_bits binary64) (differs_from_itself _ (subst T (sym c.if-x.true) tt)))
-
-pub float_to_bits-result : goal.float_to_bits-result
-float_to_bits-result c = subst (λ (t : Bool). T (not t)) (sym (sym (ne_self _) ∙ c.if-x.false)) tt
+pub returns-then-is_nan : goal.returns-then-is_nan
+returns-then-is_nan c = quiet c.args.x (sym c.is_nan.ensures.value ∙ c.if-is_nan.true)

@@ -1,28 +1,20 @@
--- `writing::refusing::content_refusal` meets its contract: its steps are the links of `refusal_of` in their order.
+-- `writing::refusing::content_refusal` meets its contract: its steps are the links of `refusal_of`.
 -- Assumes nothing.
-use borrow.Author.Rules.{rules}
 use mathlib.Core.Path.{sym, ◌∙◌}
-use Rattle.format.specs.RefusalLaws.{refused_first, decided_second}
+use Rattle.std.proofs.lemmas.Result.{err_from_is_err_and}
+use Rattle.format.specs.TriesLaws.{fault_first, fault_second}
 use Rattle.writing.proofs.Whole.{refusal_steps}
 use Rattle.writing.proofs.refusing.content_refusal.Goals as goal
 
-pub returns-then-mesh-ne0 : goal.returns-then-mesh-ne0
-returns-then-mesh-ne0 c =
-    let a = c.args in
-    refused_first _ _ c.mesh_refusal-mesh.ensures c.if-mesh-ne0.true
-    ∙ sym (refusal_steps a.vertices.now a.triangles.now a.neighbours.now a.tags.now a.settings)
+pub returns-in_err-mesh_refusal : goal.returns-in_err-mesh_refusal
+returns-in_err-mesh_refusal c =
+    let p = err_from_is_err_and c.from_residual.result c.from_residual.ensures.1 in
+    rw (p.1, p.2) (fault_first _ _ c.in_err-mesh_refusal.ensures ∙ sym (refusal_steps _ _ _ _ _))
 
-pub returns-then-values-ne0 : goal.returns-then-values-ne0
-returns-then-values-ne0 c =
-    let a = c.args in
-    decided_second _ _ c.mesh_refusal-mesh.ensures c.if-mesh-ne0.false
-    (refused_first _ _ c.values_refusal-values.ensures c.if-values-ne0.true)
-    ∙ sym (refusal_steps a.vertices.now a.triangles.now a.neighbours.now a.tags.now a.settings)
+pub returns-in_err-values_refusal : goal.returns-in_err-values_refusal
+returns-in_err-values_refusal c =
+    let p = err_from_is_err_and c.from_residual-in_err-values_refusal.result c.from_residual-in_err-values_refusal.ensures.1 in
+    rw (p.1, p.2) (fault_second _ c.in_ok-mesh_refusal.ensures (fault_first _ _ c.in_err-values_refusal.ensures) ∙ sym (refusal_steps _ _ _ _ _))
 
 pub returns : goal.returns
-returns c =
-    let a = c.args in
-    decided_second _ _ c.mesh_refusal-mesh.ensures c.if-mesh-ne0.false
-    (decided_second _ _ c.values_refusal-values.ensures c.if-values-ne0.false
-    c.missing_fault.ensures)
-    ∙ sym (refusal_steps a.vertices.now a.triangles.now a.neighbours.now a.tags.now a.settings)
+returns c = fault_second _ c.in_ok-mesh_refusal.ensures (fault_second _ c.in_ok-values_refusal.ensures c.missing_fault.ensures) ∙ sym (refusal_steps _ _ _ _ _)

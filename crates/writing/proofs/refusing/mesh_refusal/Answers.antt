@@ -1,36 +1,33 @@
--- `writing::refusing::mesh_refusal` meets its contract: the four lists are tested in the order of their sections.
+-- `writing::refusing::mesh_refusal` meets its contract: its steps are those of the definition.
 -- Assumes nothing.
-use borrow.Author.Rules.{rules}
-use mathlib.Core.Path.{sym, ◌∙◌}
+use mathlib.Core.Path.{sym}
+use Rattle.std.proofs.lemmas.Result.{err_from_is_err_and}
+use Rattle.format.specs.TriesLaws.{fault_first, fault_second}
 use Rattle.writing.specs.Write.{mesh_refusal}
-use Rattle.format.specs.RefusalLaws.{refused_first, decided_second}
 use Rattle.writing.proofs.Whole.{triangles_few}
 use Rattle.writing.proofs.refusing.mesh_refusal.Goals as goal
 
-pub returns-then-first-ne0 : goal.returns-then-first-ne0
+pub returns-in_err-vertices_refusal : goal.returns-in_err-vertices_refusal
 unfolding mesh_refusal
-returns-then-first-ne0 c = refused_first _ _ c.vertices_refusal-first.ensures c.if-first-ne0.true
+returns-in_err-vertices_refusal c =
+    let p = err_from_is_err_and c.from_residual.result c.from_residual.ensures.1 in
+    rw (p.1, p.2) (fault_first _ _ c.in_err-vertices_refusal.ensures)
 
-pub returns-then-second-ne0 : goal.returns-then-second-ne0
+pub returns-in_err-triangles_refusal : goal.returns-in_err-triangles_refusal
 unfolding mesh_refusal
-returns-then-second-ne0 c =
-    decided_second _ _ c.vertices_refusal-first.ensures c.if-first-ne0.false
-    (refused_first _ _ c.triangles_refusal-second.ensures c.if-second-ne0.true)
+returns-in_err-triangles_refusal c =
+    let p = err_from_is_err_and c.from_residual-in_err-triangles_refusal.result c.from_residual-in_err-triangles_refusal.ensures.1 in
+    rw (p.1, p.2) (fault_second _ c.in_ok-vertices_refusal.ensures (fault_first _ _ c.in_err-triangles_refusal.ensures))
 
-pub neighbours_refusal-third-requires : goal.neighbours_refusal-third-requires
-neighbours_refusal-third-requires c = triangles_few _ _ (sym c.triangles_refusal-second.ensures ∙ c.if-second-ne0.false)
+pub neighbours_refusal-requires : goal.neighbours_refusal-requires
+neighbours_refusal-requires c = triangles_few _ c.args.triangles.now (sym c.in_ok-triangles_refusal.ensures)
 
-pub returns-then-third-ne0 : goal.returns-then-third-ne0
+pub returns-in_err-neighbours_refusal : goal.returns-in_err-neighbours_refusal
 unfolding mesh_refusal
-returns-then-third-ne0 c =
-    decided_second _ _ c.vertices_refusal-first.ensures c.if-first-ne0.false
-    (decided_second _ _ c.triangles_refusal-second.ensures c.if-second-ne0.false
-    (refused_first _ _ c.neighbours_refusal-third.ensures c.if-third-ne0.true))
+returns-in_err-neighbours_refusal c =
+    let p = err_from_is_err_and c.from_residual-in_err-neighbours_refusal.result c.from_residual-in_err-neighbours_refusal.ensures.1 in
+    rw (p.1, p.2) (fault_second _ c.in_ok-vertices_refusal.ensures (fault_second _ c.in_ok-triangles_refusal.ensures (fault_first _ _ c.in_err-neighbours_refusal.ensures)))
 
 pub returns : goal.returns
 unfolding mesh_refusal
-returns c =
-    decided_second _ _ c.vertices_refusal-first.ensures c.if-first-ne0.false
-    (decided_second _ _ c.triangles_refusal-second.ensures c.if-second-ne0.false
-    (decided_second _ _ c.neighbours_refusal-third.ensures c.if-third-ne0.false
-    c.tags_refusal.ensures))
+returns c = fault_second _ c.in_ok-vertices_refusal.ensures (fault_second _ c.in_ok-triangles_refusal.ensures (fault_second _ c.in_ok-neighbours_refusal.ensures c.tags_refusal.ensures))

@@ -1,8 +1,0 @@
--- `plane::length_squared` meets its contract: it is the product with itself that `dot` ensures. Assumes nothing.
-use borrow.Author.Rules.{rules}
-use Rattle.plane.specs.Plane.{length_squared}
-use Rattle.plane.proofs.length_squared.Goals as goal
-
-pub returns : goal.returns
-unfolding length_squared
-returns c = c.dot.ensures

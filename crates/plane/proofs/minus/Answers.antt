@@ -1,8 +1,0 @@
--- `plane::minus` meets its contract: the code has the operations of the definition, in its order. Assumes nothing.
-use mathlib.Core.Path.{refl}
-use Rattle.plane.specs.Plane.{minus}
-use Rattle.plane.proofs.minus.Goals as goal
-
-pub returns : goal.returns
-unfolding minus
-returns c = refl

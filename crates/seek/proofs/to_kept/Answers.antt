@@ -1,7 +1,0 @@
--- `to_kept` meets its contract: each part of the work is what its function ensures. Assumes nothing.
-use Rattle.seek.proofs.LawsSeek.{kept_comes}
-use borrow.Author.Rules.{rules}
-use Rattle.seek.proofs.to_kept.Goals as goal
-
-pub returns : goal.returns
-returns c = kept_comes _ _ _ _ _ _ _ _ _ _ _ _ c.at_kept-from.ensures c.at_x-to.ensures c.copy.ensures c.erase_gradients.ensures c.erase_norms.ensures c.erase_path.ensures c.pathless.ensures

@@ -1,0 +1,36 @@
+-- The word and the three numbers are put one behind the other. Assumes nothing.
+use mathlib.Core.List.{[], ◌∷◌}
+use Rattle.text.specs.PutLaws.{left-all, left-more, left_last, left-room, left_room_last}
+use Rattle.text.specs.TextLaws.{end_is}
+use Rattle.text.proofs.raw.Output.«end».Goals as goal
+
+pub bytes-requires : goal.bytes-requires
+bytes-requires c = let a = c.args in left-room (101 ∷ 110 ∷ 100 ∷ []) _ (left-all a.self.now _ (end_is a.place a.field a.path)) c.requires
+
+pub word-requires : goal.word-requires
+word-requires c = let a = c.args in left-room _ _ (left-more _ c.bytes.ensures (left-all a.self.now _ (end_is a.place a.field a.path))) c.requires
+
+pub word-requires-2 : goal.word-requires-2
+word-requires-2 c =
+    let a = c.args in
+    left-room _ _ (left-more _ c.word.ensures (left-more _ c.bytes.ensures (left-all a.self.now _ (end_is a.place a.field a.path)))) c.requires
+
+pub word-requires-3 : goal.word-requires-3
+word-requires-3 c =
+    let a = c.args in
+    left-room _ _ (left-more _ c.word-2.ensures (left-more _ c.word.ensures (left-more _ c.bytes.ensures (left-all a.self.now _ (end_is a.place a.field a.path))))) c.requires
+
+pub byte-requires : goal.byte-requires
+byte-requires c =
+    let a = c.args in
+    left_room_last (left-more _ c.word-3.ensures (left-more _ c.word-2.ensures (left-more _ c.word.ensures (left-more _ c.bytes.ensures (left-all a.self.now _ (end_is a.place a.field a.path)))))) c.requires
+
+pub returns : goal.returns
+returns c =
+    let a = c.args in
+    left_last c.byte.ensures
+    (left-more _ c.word-3.ensures
+    (left-more _ c.word-2.ensures
+    (left-more _ c.word.ensures
+    (left-more _ c.bytes.ensures
+    (left-all a.self.now _ (end_is a.place a.field a.path))))))
