@@ -1,4 +1,5 @@
 // The call that goes on. What is wrong is refused with a number, and then nothing has changed.
+// The three lent buffers are three parameters, as C lends them: `&` and `&mut` say which of them a function writes. `as u64`: a usize is no `Into<u64>`; `as usize`: a u32 is no `Into<usize>`.
 #![tactic(auto)]
 
 ghost use Rattle.std.specs.Prelude.{◌≡◌, ◌+◌, ◌-◌, ◌≤◌, ltb};
@@ -9,7 +10,7 @@ ghost use Rattle.image.specs.Calls.{buffers, answer_of, Does};
 ghost use Rattle.image.specs.Exits.{over_fault};
 
 use refusal::Refusal;
-use work::Run;
+use work::{Laid, Run};
 
 // 2^64 − 1, the most passes that are counted.
 const MOST: u64 = 18446744073709551615;
@@ -26,13 +27,15 @@ fn passes_fault(run: Run, target: usize, floats: &[f64], words: &[u32]) -> Resul
     requires { Counts run.plan words.now run.stand (target - run.stand.place) floats.now × (run.stand.place ≤ target) }
     ensures { fault result ≡ over_fault run.passes (gain run.plan words.now (target - run.stand.place) floats.now run.stand) }
 {
-    let plan = run.plan;
-    let stand = run.stand;
-    let k = target - stand.place;
+    let k = target - run.stand.place;
     if !over(run.passes, k) {
         return Ok(());
     }
-    let more = dry::dry_gain(floats, words, plan, stand, k);
+    let laid = Laid {
+        plan: run.plan,
+        words,
+    };
+    let more = dry::dry_gain(floats, &laid, run.stand, k);
     if over(run.passes, more) {
         Err(Refusal::Record)
     } else {
@@ -52,7 +55,7 @@ pub fn advance(
     gate::held_fault(run, floats, words, path)?;
     let plan = run.plan;
     let place = run.stand.place;
-    let target = gate::least(place + k as usize, gate::farthest(plan.t, plan.limit));
+    let target = (place + k as usize).min(gate::farthest(plan.t, plan.limit));
     passes_fault(run, target, floats, words)?;
     let stand = gate::seek(run, target, floats, words, path);
     let gain = stand.place - place;

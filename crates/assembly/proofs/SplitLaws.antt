@@ -110,6 +110,31 @@ pub record WordParts (w : List ℕ) (at : Places) (w₀ w₁ w₂ w₃ w₄ w₅
   pub long₄ : length w₄ ≡ at.rowcols - at.links
   pub long₅ : length w₅ ≡ length w - at.rowcols
 
+-- what three splits of the floats and five of the words give, by the front of each
+pub float_parts : (f f₀ r₀ f₁ r₁ f₂ f₃ : List Float) (n t : ℕ) (at : Places) → LaidFloats f n t at → f ≡ f₀ ++ r₀ → length f₀ ≡ at.right → r₀ ≡ f₁ ++ r₁ → length f₁ ≡ at.row - at.right
+    → r₁ ≡ f₂ ++ f₃ → length f₂ ≡ at.values - at.row → FloatParts f at f₀ f₁ f₂ f₃
+float_parts f f₀ r₀ f₁ r₁ f₂ f₃ n t at laid e₀ l₀ e₁ l₁ e₂ l₂ =
+    record {
+      whole = e₀ ∙ ap (λ (x : List Float). f₀ ++ x) (e₁ ∙ ap (λ (x : List Float). f₁ ++ x) e₂);
+      long₀ = l₀;
+      long₁ = l₁;
+      long₂ = l₂;
+      long₃ = omega (arith, laid, ap length e₀, length-append f₀ r₀, ap length e₁, length-append f₁ r₁, ap length e₂, length-append f₂ f₃);
+    }
+
+pub word_parts : (w w₀ r₀ w₁ r₁ w₂ r₂ w₃ r₃ w₄ w₅ : List ℕ) (n t : ℕ) (at : Places) → LaidWords w n t at → w ≡ w₀ ++ r₀ → length w₀ ≡ at.starts → r₀ ≡ w₁ ++ r₁ → length w₁ ≡ at.cols - at.starts
+    → r₁ ≡ w₂ ++ r₂ → length w₂ ≡ at.heads - at.cols → r₂ ≡ w₃ ++ r₃ → length w₃ ≡ at.links - at.heads → r₃ ≡ w₄ ++ w₅ → length w₄ ≡ at.rowcols - at.links → WordParts w at w₀ w₁ w₂ w₃ w₄ w₅
+word_parts w w₀ r₀ w₁ r₁ w₂ r₂ w₃ r₃ w₄ w₅ n t at laid e₀ l₀ e₁ l₁ e₂ l₂ e₃ l₃ e₄ l₄ =
+    record {
+      whole = e₀ ∙ ap (λ (x : List ℕ). w₀ ++ x) (e₁ ∙ ap (λ (x : List ℕ). w₁ ++ x) (e₂ ∙ ap (λ (x : List ℕ). w₂ ++ x) (e₃ ∙ ap (λ (x : List ℕ). w₃ ++ x) e₄)));
+      long₀ = l₀;
+      long₁ = l₁;
+      long₂ = l₂;
+      long₃ = l₃;
+      long₄ = l₄;
+      long₅ = omega (arith, laid, ap length e₀, length-append w₀ r₀, ap length e₁, length-append w₁ r₁, ap length e₂, length-append w₂ r₂, ap length e₃, length-append w₃ r₃, ap length e₄, length-append w₄ w₅);
+    }
+
 module _ (f : List Float) (w : List ℕ) (n t : ℕ) (at : Places) (lf : LaidFloats f n t at) (lw : LaidWords w n t at)
     (f₀ f₁ f₂ f₃ : List Float) (w₀ w₁ w₂ w₃ w₄ w₅ : List ℕ) (pf : FloatParts f at f₀ f₁ f₂ f₃) (pw : WordParts w at w₀ w₁ w₂ w₃ w₄ w₅) where
   vertices_long : length (vertices_in f n at) ≡ 2 * n

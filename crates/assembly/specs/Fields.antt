@@ -7,15 +7,15 @@ use Rattle.laplace.specs.declared.element.Elements.{Elements}
 use Rattle.laplace.specs.Mesh.{held_value}
 use Rattle.laplace.specs.Assembly.{pushes, rows, right_side}
 use Rattle.laplace.specs.Matrix.{count}
-use Rattle.laplace.specs.Elements.{IsMesh}
+use Rattle.laplace.specs.Elements.{AreElements}
 use Rattle.laplace.specs.Placed.{values_of, columns_of, starts_of, padded}
 use Rattle.laplace.specs.Rows.{room_of}
 use Rattle.rows.specs.declared.row.Row.{Row}
-use Rattle.rows.specs.declared.matrix.Matrix.{Matrix}
+use Rattle.rows.specs.declared.matrix.Builder.{Builder}
 
 -- each part has its place for each vertex, each corner or each entry, and the matrix and the row are empty
-pub record Fits (e : Elements) (m : Matrix) (right : List Float) (r : Row) (heads links : List ℕ) : Type 0 where
-  pub mesh : IsMesh e
+pub record Fits (e : Elements) (m : Builder) (right : List Float) (r : Row) (heads links : List ℕ) : Type 0 where
+  pub mesh : AreElements e
   pub right_long : length right ≡ length e.tags.now
   pub row_long : length r.values.now ≡ length e.tags.now
   pub rowcols_long : length r.cols.now ≡ length e.tags.now
@@ -28,7 +28,7 @@ pub record Fits (e : Elements) (m : Matrix) (right : List Float) (r : Row) (head
   pub empty : m.count ≡ 0
 
 -- the rows rs in a matrix with room for `room` entries, and zeros behind them
-pub record PutsMatrix (old new : Matrix) (room : ℕ) (rs : List (List Entry)) : Type 0 where
+pub record PutsMatrix (old new : Builder) (room : ℕ) (rs : List (List Entry)) : Type 0 where
   pub total : new.count ≡ count rs
   pub starts : new.starts.now ≡ splice old.starts.now 0 (starts_of rs)
   pub columns : new.cols.now ≡ padded room 0 (columns_of rs)
@@ -36,7 +36,7 @@ pub record PutsMatrix (old new : Matrix) (room : ℕ) (rs : List (List Entry)) :
 
 -- how long each part is
 pub record Lengths (e : Elements) (right row values starts cols heads links rowcols : ℕ) : Type 0 where
-  pub mesh : IsMesh e
+  pub mesh : AreElements e
   pub right_long : right ≡ length e.tags.now
   pub row_long : row ≡ length e.tags.now
   pub values_long : values ≡ room_of e

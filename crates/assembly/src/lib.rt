@@ -1,4 +1,4 @@
-// Assembly of the matrix and the right side.
+// Assembly of the matrix and the right side. Both buffers are lent whole, so a mesh stands in them by its counts and places.
 #![tactic(auto)]
 
 ghost use Rattle.std.specs.Prelude.{◌≡◌, length, replicate};
@@ -10,19 +10,19 @@ ghost use Rattle.laplace.specs.Laid.{LaidFloats, LaidWords};
 ghost use Rattle.laplace.specs.Row.{tags_in};
 ghost use Rattle.laplace.specs.Rows as Rows;
 ghost use Rattle.laplace.specs.Whole as Whole;
-ghost use Rattle.rows.specs.Buffers.{SameRow, SameMatrix};
+ghost use Rattle.rows.specs.Buffers.{SameRow, SameBuilder};
 ghost use Rattle.assembly.specs.Fields.{Fits, PutsMatrix, Lengths, Filled};
 
 use laplace::Places;
 use laplace::corners::link;
 use laplace::element::Elements;
 use right::right_side;
-use rows::matrix::Matrix;
+use rows::matrix::Builder;
 use rows::row::{Corners, Row};
 
 // The matrix of a mesh, into an empty one, and its right side; a row to build in, and heads and links, are lent.
 fn fill(
-    matrix: &mut Matrix,
+    matrix: &mut Builder,
     right: &mut [f64],
     row: &mut Row,
     heads: &mut [u32],
@@ -30,7 +30,7 @@ fn fill(
     mesh: &Elements,
 )
     requires { Fits mesh.now matrix.old right.old row.old heads.old links.old }
-    ensures same { SameMatrix matrix.old matrix.new × SameRow row.old row.new }
+    ensures same { SameBuilder matrix.old matrix.new × SameRow row.old row.new }
     ensures put { PutsMatrix matrix.old matrix.new (Rows.room_of mesh.now) (Rows.rows_of mesh.now (length mesh.now.tags.now)) }
     ensures side { right.new ≡ Assembly.right_side held_value mesh.now.tags.now (pushes_of mesh.now) (length mesh.now.tags.now) }
     ensures row { (row.new.values.now ≡ replicate (length mesh.now.tags.now) plus_zero) × (row.new.cols.now ≡ replicate (length mesh.now.tags.now) 0) }
@@ -41,7 +41,12 @@ fn fill(
     matrix.values.fill(0.0);
     matrix.cols.fill(0);
     link(mesh.triangles, heads, links);
-    matrix.fill(row, mesh, Corners { heads, links });
+    let corners = Corners {
+        mesh: *mesh,
+        heads,
+        links,
+    };
+    matrix.fill(row, &corners);
     heads.fill(0);
     links.fill(0);
     right_side(right, mesh);
@@ -62,7 +67,7 @@ fn fill_slices(
     requires { Lengths mesh.now (length right.old) (length row.old) (length values.old) (length starts.old) (length cols.old) (length heads.old) (length links.old) (length rowcols.old) }
     ensures { Filled mesh.now.flat mesh.now.vertices.now mesh.now.triangles.now mesh.now.tags.now starts.old right.new row.new values.new starts.new cols.new heads.new links.new rowcols.new result }
 {
-    let mut matrix = Matrix {
+    let mut matrix = Builder {
         starts,
         cols,
         values,

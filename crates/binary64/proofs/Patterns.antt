@@ -1,9 +1,8 @@
 -- What a pattern of binary64 is read as, sorted by the exponent's field: zero, subnormal or ordinary (a finite value that is not zero), infinite or blank. Assumes nothing.
-use Rattle.std.proofs.Common.{◌≡◌, ℕ, zero, suc, ◌+◌, ◌-◌, ◌*◌, ◌/◌, ◌%◌, ◌^◌, ◌<◌, ◌≤◌, Bool, true, false, cond, not, T, eqb, ℤ, pos, sym, refl, ap, ◌∙◌, subst, lt_irrefl, mod-eq_of_lt, mul-pos, zero-mul, arith, pow_pos, ne_eqb, le-leb}
+use Rattle.std.proofs.Common.{◌≡◌, ℕ, zero, suc, ◌+◌, ◌-◌, ◌*◌, ◌/◌, ◌%◌, ◌^◌, ◌<◌, ◌≤◌, Bool, true, false, cond, T, eqb, ℤ, pos, sym, refl, ap, ◌∙◌, subst, lt_irrefl, mod-eq_of_lt, mul-pos, zero-mul, arith, pow_pos, ne_eqb, le-leb}
 use borrow.Author.Tests.{lt-leb}
-use lib.Ieee.{Float, nan, inf, fin, binary64, up, down, odd, is_nan, ne, fits, of_fields, of_bits, to_bits}
+use lib.Ieee.{Float, nan, inf, fin, binary64, up, down, odd, fits, of_fields, of_bits, to_bits}
 use lib.Ieee.Digits.{odd_val}
-use lib.Ieee.Compare.{differs_from_itself}
 use lib.Ieee.Fits.{down_pos}
 use lib.Ieee.Positive.{positive}
 use lib.Ieee.Bits.{of_bits-to_bits, to_bits-lt}
@@ -53,17 +52,6 @@ bits-minus b l h =
     let e : b % 2 ^ 63 ≡ b - 2 ^ 63 = omega arith in
     let d : b % 2 ^ 52 ≡ (b - 2 ^ 63) % 2 ^ 52 = omega arith in
     rw (le-leb (2 ^ 63) b l, e, d)
-
--- ---- the test for a NaN
-
-pub is_blank : (x : Float) → ne x x ≡ true → x ≡ nan
-is_blank x e = differs_from_itself x (subst T (sym e) tt)
-
-pub not_blank : (x : Float) → ne x x ≡ false → T (not (is_nan x))
-unfolding is_nan ne
-not_blank nan e = subst T e tt
-not_blank (inf s) e = tt
-not_blank (fin s m e) h = tt
 
 -- ---- a positive finite value's pattern is above 0 and below the infinity's
 

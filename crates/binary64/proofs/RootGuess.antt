@@ -1,17 +1,11 @@
 -- A root guessed and made certain: what the square of a · 2^26 + b leaves, product by product, and how far the nearest root is from there.
 -- The whole number p + 1 is the nearest to the root of y where y is above p² + p and at most p² + 3p + 2, the squares of the midpoints beside it less a quarter. Assumes nothing.
-use Rattle.std.proofs.Common.{◌≡◌, ℕ, ◌+◌, ◌-◌, ◌*◌, ◌/◌, ◌%◌, ◌^◌, ◌<◌, ◌≤◌, Bool, true, false, ltb, refl, ◌∙◌, subst, add-zero, mul-le-mul, arith, shl_lt, ltb-false, ltb-true}
+use Rattle.std.proofs.Common.{◌≡◌, ℕ, ◌+◌, ◌*◌, ◌/◌, ◌%◌, ◌^◌, ◌<◌, ◌≤◌, Bool, true, false, ltb, refl, ◌∙◌, subst, add-zero, arith, shl_lt, ltb-false, ltb-true}
 use Rattle.binary64.specs.Number.{pick}
 use Rattle.binary64.specs.Root.{whole_root, square}
 use Rattle.binary64.proofs.WholeRoot.{root-lt, whole_root-low, whole_root_high}
 
 -- ---- the remainder
-
--- a product of short numbers fits 64 bits
-pub product_fits : (a b : ℕ) → a < 2 ^ 32 → b < 2 ^ 32 → a * b < 2 ^ 64
-product_fits a b h g =
-    let l : a * b ≤ (2 ^ 32 - 1) * (2 ^ 32 - 1) = mul-le-mul {n₁ = a} {m₁ = b} {n₂ = 2 ^ 32 - 1} {m₂ = 2 ^ 32 - 1} (omega arith) (omega arith) in
-    omega arith
 
 halves : (operand a b first second rest : ℕ) → first + a * a ≡ operand → second + 2 * a * b ≡ first * 2 ^ 26 → rest + b * b ≡ second * 2 ^ 26 → (a * 2 ^ 26 + b) * (a * 2 ^ 26 + b) + rest ≡ operand * 2 ^ 52
 halves operand a b first second rest e f g = omega arith

@@ -67,9 +67,6 @@ pub record Partial (operand i m rem r : ℕ) : Type 0 where
   pub least : rem ≤ 2 * r
   pub long : r < 2 ^ i
 
-pub partial_none : (operand : ℕ) → operand < 2 ^ 54 → Partial operand 0 operand 0 0
-partial_none operand h = omega arith
-
 -- the digits so far leave room in 64 bits for two more of the operand
 pub partial_small : {operand i m rem r : ℕ} → Partial operand i m rem r → i < 54 → r < 2 ^ 53
 partial_small {i = i} p h = let l : i ≤ 53 = omega arith in lt_of_lt_of_le p.long (pow_mono l)

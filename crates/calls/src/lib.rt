@@ -1,12 +1,14 @@
 // The calls that go back, mark and return. What is wrong is refused with a number, and then nothing has changed.
+// The three lent buffers are three parameters, as C lends them: `&` and `&mut` say which of them a call writes, and a mark writes the floats alone.
 #![tactic(auto)]
 
 ghost use Rattle.model.specs.Machine as Machine;
 ghost use Rattle.image.specs.Calls.{buffers, answer_of, Does};
 
 use refusal::Refusal;
-use work::{Kept, Run};
+use work::{Kept, Run, Stand};
 
+// `as usize`: a u32 is no `Into<usize>`.
 pub fn back(
     run: Run,
     k: u32,
@@ -17,24 +19,25 @@ pub fn back(
     ensures { Does (Machine.back k) run (buffers floats.old words.now path.old) (answer_of run result) (buffers floats.new words.now path.new) }
 {
     gate::held_fault(run, floats, words, path)?;
-    let place = run.stand.place;
-    let before = place.saturating_sub(k as usize);
+    let before = run.stand.place.saturating_sub(k as usize);
     let stand = gate::seek(run, before, floats, words, path);
     let earlier = gate::moved(run, stand, run.passes);
     Ok(earlier)
 }
 
-pub fn mark(run: Run, floats: &mut [f64], words: &[u32], path: &mut [f64]) -> Result<Run, Refusal>
-    ensures { Does Machine.mark run (buffers floats.old words.now path.old) (answer_of run result) (buffers floats.new words.now path.new) }
+pub fn mark(run: Run, floats: &mut [f64], words: &[u32], path: &[f64]) -> Result<Run, Refusal>
+    ensures { Does Machine.mark run (buffers floats.old words.now path.now) (answer_of run result) (buffers floats.new words.now path.now) }
 {
     gate::held_fault(run, floats, words, path)?;
-    let stand = run.stand;
     seek::keep(floats, run.plan);
-    let kept = Kept {
-        place: stand.place,
-        rs: stand.rs,
-        norms: stand.norms,
-    };
+    // In this place alone a stand is taken apart into a `Kept`.
+    let Stand {
+        place,
+        rs,
+        norms,
+        ..
+    } = run.stand;
+    let kept = Kept { place, rs, norms };
     let marked = Run {
         mark: Some(kept),
         ..run
@@ -42,6 +45,7 @@ pub fn mark(run: Run, floats: &mut [f64], words: &[u32], path: &mut [f64]) -> Re
     Ok(marked)
 }
 
+// As `back`, to the place of a mark, which there may not be. What both do then is two calls, `gate::seek` and `gate::moved`; what differs is the target.
 pub fn return_to_mark(
     run: Run,
     floats: &mut [f64],

@@ -1,5 +1,5 @@
 // The library that a controller links: the sheet and the run under C names, as include/cintrok.h declares them. A run's record is two lists of numbers (crate records), settings and a sheet's head are lists of numbers (crate heads).
-// Each function is one call; what it does is proved in the crates below.
+// Each function is one call; what it does is proved in the crates below. The C interface is why they answer a refusal's number, take lists of numbers, three buffers and an index beside a slice, and stand one for each name where they differ in a call alone.
 #![tactic(auto)]
 
 ghost use Rattle.std.specs.Prelude.{◌≡◌, get_or, set};
@@ -13,6 +13,7 @@ ghost use Rattle.heads.specs.Heads as Heads;
 ghost use Rattle.controls.specs.Controls as Controls;
 
 use image::Call;
+use records::lists::Lists;
 
 // ---- the sheet
 
@@ -53,7 +54,7 @@ pub extern "C" fn cintrok_raw_neighbour(items: &[u8], i: usize) -> u32
 pub extern "C" fn cintrok_raw_tag(items: &[u8], i: usize) -> u32
     ensures { result ≡ get_or items.now i 0 }
 {
-    sheet::items::tag(items, i) as u32
+    u32::from(sheet::items::tag(items, i))
 }
 
 #[unsafe(no_mangle)]
@@ -155,7 +156,7 @@ pub extern "C" fn cintrok_raw_length(
 ) -> u32
     ensures { Controls.Measured wholes.now reals.now (buffers floats.now words.now path.now) out.old result out.new }
 {
-    refusal::number(controls::length(floats, words, path, wholes, reals, out))
+    refusal::number(controls::length(floats, words, path, &Lists { wholes, reals }, out))
 }
 
 // ---- what a run shows
@@ -197,7 +198,7 @@ pub extern "C" fn cintrok_raw_field(
 ) -> u32
     ensures { Controls.Handed (Controls.field_at (run_from wholes.now reals.now).plan) (field_of (run_from wholes.now reals.now) floats.now) wholes.now reals.now out.old result out.new }
 {
-    refusal::number(controls::field(floats, wholes, reals, out))
+    refusal::number(controls::field(floats, &Lists { wholes, reals }, out))
 }
 
 #[unsafe(no_mangle)]
@@ -209,7 +210,7 @@ pub extern "C" fn cintrok_raw_norms(
 ) -> u32
     ensures { Controls.Handed (Controls.norms_at (run_from wholes.now reals.now).plan) (norms_of (run_from wholes.now reals.now) floats.now) wholes.now reals.now out.old result out.new }
 {
-    refusal::number(controls::norms(floats, wholes, reals, out))
+    refusal::number(controls::norms(floats, &Lists { wholes, reals }, out))
 }
 
 #[unsafe(no_mangle)]
@@ -221,7 +222,7 @@ pub extern "C" fn cintrok_raw_gradients(
 ) -> u32
     ensures { Controls.Handed (Controls.gradients_at (run_from wholes.now reals.now).plan) (gradients_of (run_from wholes.now reals.now) floats.now) wholes.now reals.now out.old result out.new }
 {
-    refusal::number(controls::gradients(floats, wholes, reals, out))
+    refusal::number(controls::gradients(floats, &Lists { wholes, reals }, out))
 }
 
 #[unsafe(no_mangle)]
@@ -233,7 +234,7 @@ pub extern "C" fn cintrok_raw_points(
 ) -> u32
     ensures { Controls.Handed 0 (points_of (run_from wholes.now reals.now) path.now) wholes.now reals.now out.old result out.new }
 {
-    refusal::number(controls::points(path, wholes, reals, out))
+    refusal::number(controls::points(path, &Lists { wholes, reals }, out))
 }
 
 #[unsafe(no_mangle)]

@@ -30,10 +30,6 @@ module _ (f : Float → Float → Float) (u v : List Float) where
   abbrev zipped : ℕ → List Float
   zipped i = zip_with f (take i u) (take i v)
 
-  zipped_none : [] ≡ zipped 0
-  unfolding zip_with
-  zipped_none = refl
-
   length-zipped : (i : ℕ) → i ≤ length u → i ≤ length v → length (zipped i) ≡ i
   length-zipped i hu hv =
       let a : length (take i u) ≡ i = length-take-le i u hu in

@@ -1,7 +1,7 @@
 -- What the loops of a pass and of place 0 come to together. Assumes nothing.
-use Rattle.std.specs.Prelude.{◌≡◌, refl, length, replicate, true, false, Float}
+use Rattle.std.specs.Prelude.{◌≡◌, refl, ℕ, ◌++◌, length, take, drop, replicate, true, false, Float}
 use Rattle.std.specs.Float.Ieee.{lt}
-use Rattle.std.proofs.Common.{ap, ◌∙◌}
+use Rattle.std.proofs.Common.{ap, ◌∙◌, take_at, drop_at}
 use mathlib.Core.List.{List, zip_with}
 use Rattle.binary64.specs.Arith.{◌⊘◌}
 use Rattle.binary64.specs.Constants.{plus_zero}
@@ -12,6 +12,7 @@ use Rattle.sparse.specs.declared.Matrix.{Matrix}
 use Rattle.sparse.specs.Sparse.{Entry, mat_vec}
 use Rattle.sparse.specs.Matrix.{rows, matrix_of}
 use Rattle.sparse.specs.ByRowsLaws.{length-first_rows, length-product}
+use Rattle.conjugate.specs.declared.Pass.{Pass}
 use Rattle.conjugate.specs.declared.Pass.TheVariants.{Halted, Reached, Moved}
 use Rattle.conjugate.specs.Solver.{Solve, halted, reached, moved, pass, begun}
 use Rattle.conjugate.specs.SolverLaws.{next_x, next_r, next_sum, next_of, pass_halted, pass_reached, pass-moved}
@@ -71,3 +72,17 @@ length-product_of m x = length-product m.starts.now m.cols.now m.values.now (row
 
 pub length-matrix_of : (m : Matrix) → length (matrix_of m) ≡ rows m
 length-matrix_of m = length-first_rows m.starts.now m.cols.now m.values.now (rows m)
+
+-- ---- vectors that are the halves of a slice: of xr and pq before; x, r, p and q after
+
+module _ (n : ℕ) (x r p q : List Float) (x-long : length x ≡ n) (p-long : length p ≡ n) where
+  pub begun_on_halves : (t : Solve) {sum : Float} → Begins t x r p sum → Begins t (take n (x ++ r)) (drop n (x ++ r)) (take n (p ++ q)) sum
+  begun_on_halves t d = rw (take_at x r n x-long, drop_at x r n x-long, take_at p q n p-long) d
+
+  pub passed_on_halves : (xr pq : List Float) (mat : List (List Entry)) (tiny tolerance rs : Float) {x₀ r₀ p₀ : List Float} {answer : Pass} → x₀ ≡ take n xr → r₀ ≡ drop n xr → p₀ ≡ take n pq
+      → Passes mat tiny tolerance (solve x₀ r₀ p₀ rs) x r p answer → Passes mat tiny tolerance (solve (take n xr) (drop n xr) (take n pq) rs) (take n (x ++ r)) (drop n (x ++ r)) (take n (p ++ q)) answer
+  passed_on_halves xr pq mat tiny tolerance rs ex er ep d = rw (← ex, ← er, ← ep, take_at x r n x-long, drop_at x r n x-long, take_at p q n p-long) d
+
+pub passed_beside_on_halves : (n : ℕ) (x r p : List Float) → length r ≡ n → (rp : List Float) (mat : List (List Entry)) (tiny tolerance rs : Float) {x₀ r₀ p₀ : List Float} {answer : Pass} → r₀ ≡ take n rp → p₀ ≡ drop n rp
+    → Passes mat tiny tolerance (solve x₀ r₀ p₀ rs) x r p answer → Passes mat tiny tolerance (solve x₀ (take n rp) (drop n rp) rs) x (take n (r ++ p)) (drop n (r ++ p)) answer
+passed_beside_on_halves n x r p long rp mat tiny tolerance rs er ep d = rw (← er, ← ep, take_at r p n long, drop_at r p n long) d

@@ -2,7 +2,7 @@
 use Rattle.std.specs.Prelude.{◌≡◌, refl, List, [], ◌++◌, ℕ, ◌+◌, ◌-◌, ◌*◌, ◌≤◌, length, take, drop, Float}
 use Rattle.std.proofs.Math.Seq.{take_all, drop-drop}
 use lib.ListN.{drop_of_length-le}
-use Rattle.std.proofs.Common.{sym, ap, ◌∙◌, arith, zero-add, append_assoc, append-nil, length-append, length-drop, take-append-drop}
+use Rattle.std.proofs.Common.{sym, ap, subst, ◌∙◌, arith, zero-add, append_assoc, append-nil, length-append, length-drop, length-take-le, take-append-drop}
 use Rattle.stretch.specs.Stretch.{part, splice}
 use Rattle.stretch.specs.StretchLaws.{length_part, length-splice, part_front, splice_front, splice_is, splice_part, part_splice-before, part_splice-after, part_splice-same}
 use Rattle.sparse.specs.Sparse.{Entry}
@@ -173,3 +173,12 @@ module _ (v rest : List Float) (n : ℕ) (many : length v ≡ 3 * n) where
       ∙ put_front (after s t).x (after s t).r (after s t).p long.x_long long.r_long long.p_long
       ∙ ap (λ (w : List Float). w ++ rest) (sym (left_put n v rs t (omega arith) long)) in
       rw e (record { said = d.said; left = ap (λ (w : List Float). w ++ rest) d.left ∙ sym whole })
+
+-- ---- the front of a slice v of at least 3n, lent as a slice of its own
+
+pub passed_beside_taken : (v : List Float) (n : ℕ) → 3 * n ≤ length v → (mat : List (List Entry)) (v' : List Float) {answer : Pass} (tiny tolerance rs : Float) → length mat ≡ n
+    → PassedBeside (take (3 * n) v) v' n (pass tiny mat tolerance (vectors_of (take (3 * n) v) n rs)) answer
+    → PassedBeside v (v' ++ drop (3 * n) v) n (pass tiny mat tolerance (vectors_of v n rs)) answer
+passed_beside_taken v n h mat v' {answer} tiny tolerance rs rows d =
+    subst (λ (w : List Float). PassedBeside w (v' ++ drop (3 * n) v) n (pass tiny mat tolerance (vectors_of w n rs)) answer) (take-append-drop (3 * n) v)
+    (passed_beside_front (take (3 * n) v) (drop (3 * n) v) n (length-take-le (3 * n) v h) mat tiny tolerance rs rows d)

@@ -1,7 +1,9 @@
 // Conjugate gradients: place 0, and one pass.
+// The vectors are slices of their own: `&` and `&mut` say which of them a step reads and which it writes, and a struct of `&mut` would leave that to clauses. Their lengths are one record, `AsLong`.
+// The thresholds are two numbers, as in the definitions: the callers have `tiny` as a constant of the run and `tolerance` of the sheet.
 #![tactic(auto)]
 
-ghost use Rattle.std.specs.Prelude.{◌≡◌, ◌*◌, length, take, drop, replicate};
+ghost use Rattle.std.specs.Prelude.{◌≡◌, ◌*◌, ◌≤◌, length, take, drop, replicate};
 ghost use mathlib.Core.List.{zip_with};
 ghost use Rattle.binary64.specs.Constants.{plus_zero};
 ghost use Rattle.stretch.specs.Vec as Vec;
@@ -144,7 +146,7 @@ fn step_beside(a: &Matrix, x: &mut [f64], r: &mut [f64], p: &[f64], alpha: f64) 
     square
 }
 
-// One pass with rs = r·r, as `one_pass`, and no product.
+// One pass with rs = r·r, as `one_pass`, and no product. Apart from `one_pass`: one function of both would take p·Ap and the step as closures and state the contracts of both for them.
 pub fn pass_beside(
     a: &Matrix,
     x: &mut [f64],
@@ -170,7 +172,7 @@ pub fn pass_beside(
     Pass::Moved(square, norm)
 }
 
-// ---- vectors that stand one after the other in a slice: x, r, p and the product
+// ---- vectors that stand one after the other in a slice: x, r, p and the product; n, the matrix's rows, says where each starts. A slice is split once in a function, and its halves in the next.
 
 // One pass, where x and r, and p and the product, are the halves of slices.
 fn pass_on_halves(
@@ -247,8 +249,8 @@ fn beside_on_halves(
     pass_beside(a, x, r, p, tiny, tolerance, rs)
 }
 
-// One pass beside: the vectors are x, r and p.
-pub fn pass_beside_in_row(
+// One pass beside, where x, r and p are the thirds of a slice.
+fn beside_on_thirds(
     a: &Matrix,
     vectors: &mut [f64],
     n: usize,
@@ -261,4 +263,20 @@ pub fn pass_beside_in_row(
 {
     let (x, rp) = vectors.split_at_mut(n);
     beside_on_halves(a, x, rp, n, tiny, tolerance, rs)
+}
+
+// One pass beside: the vectors are x, r and p, and what stands behind them stays.
+pub fn pass_beside_in_row(
+    a: &Matrix,
+    vectors: &mut [f64],
+    n: usize,
+    tiny: f64,
+    tolerance: f64,
+    rs: f64,
+) -> Pass
+    requires { (n ≡ rows a.now) × (3 * n ≤ length vectors.old) }
+    ensures { Beside.PassedBeside vectors.old vectors.new n (pass tiny (matrix_of a.now) tolerance (Beside.vectors_of vectors.old n rs)) result }
+{
+    let front = &mut vectors[..3 * n];
+    beside_on_thirds(a, front, n, tiny, tolerance, rs)
 }

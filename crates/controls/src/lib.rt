@@ -1,4 +1,5 @@
 // Opening, the four calls and what a run shows, for callers that hold a run's record as two lists of numbers: the two lent lists, wholes and reals, are what the C interface has.
+// Lists that are read are one `Lists`. Where they are written they are two parameters, and the three buffers are three: `&` and `&mut` say which of them a function writes. Counts come and go as C's u64, by `as`: a usize is no `Into<u64>`.
 #![tactic(auto)]
 
 ghost use Rattle.std.specs.Prelude.{◌≡◌, length};
@@ -7,11 +8,13 @@ ghost use Rattle.image.specs.Call.{machine_call};
 ghost use Rattle.image.specs.Calls.{buffers};
 ghost use Rattle.image.specs.Parts.{field_of, norms_of, gradients_of};
 ghost use Rattle.image.specs.Points.{points_of};
-ghost use Rattle.records.specs.Numbers.{run_from, fitting};
+ghost use Rattle.records.specs.Numbers.{run_from};
 ghost use Rattle.controls.specs.Controls as Controls;
 
+use records::lists::Lists;
 use refusal::Refusal;
 use run::Call;
+use showing::Shown;
 use work::Plan;
 
 // What refuses a record whose flags are not 0 or 1, from what refuses it else.
@@ -25,21 +28,14 @@ fn flag_refusal(found: Result<(), Refusal>) -> Refusal
 }
 
 // What refuses any call.
-fn held_fault(
-    floats: &[f64],
-    words: &[u32],
-    path: &[f64],
-    wholes: &[u64],
-    reals: &[f64],
-) -> Result<(), Refusal>
-    ensures { fault result ≡ Controls.held_fault_in wholes.now reals.now (buffers floats.now words.now path.now) }
+fn held_fault(floats: &[f64], words: &[u32], path: &[f64], lists: &Lists) -> Result<(), Refusal>
+    ensures { fault result ≡ Controls.held_fault_in lists.now.wholes.now lists.now.reals.now (buffers floats.now words.now path.now) }
 {
-    if !records::from::fits(wholes.len(), reals.len()) {
+    if !lists.fits() {
         return Err(Refusal::Space);
     }
-    let run = records::from::run_from(wholes, reals);
-    let found = gate::held_fault(run, floats, words, path);
-    if records::from::flagged(wholes) {
+    let found = gate::held_fault(lists.run(), floats, words, path);
+    if lists.flagged() {
         return found;
     }
     Err(flag_refusal(found))
@@ -55,11 +51,12 @@ pub fn call(
 ) -> Result<(), Refusal>
     ensures { Controls.Called (machine_call call) wholes.old reals.old (buffers floats.old words.now path.old) (fault result) wholes.new reals.new (buffers floats.new words.now path.new) }
 {
-    if !records::from::fits(wholes.len(), reals.len()) {
+    let lists = Lists { wholes, reals };
+    if !lists.fits() {
         return Err(Refusal::Space);
     }
-    let before = records::from::run_from(wholes, reals);
-    if !records::from::flagged(wholes) {
+    let before = lists.run();
+    if !lists.flagged() {
         let found = gate::held_fault(before, floats, words, path);
         return Err(flag_refusal(found));
     }
@@ -79,7 +76,8 @@ pub fn open(
 ) -> Result<(), Refusal>
     ensures { Controls.OpenedIn sheet.now wholes.old reals.old (buffers floats.old words.old path.old) (fault result) wholes.new reals.new (buffers floats.new words.new path.new) }
 {
-    if !records::from::fits(wholes.len(), reals.len()) {
+    let lists = Lists { wholes, reals };
+    if !lists.fits() {
         sheet::check_sheet(sheet)?;
         return Err(Refusal::Space);
     }
@@ -93,18 +91,16 @@ pub fn length(
     floats: &[f64],
     words: &[u32],
     path: &[f64],
-    wholes: &[u64],
-    reals: &[f64],
+    lists: &Lists,
     out: &mut [f64],
 ) -> Result<(), Refusal>
-    ensures { Controls.Measured wholes.now reals.now (buffers floats.now words.now path.now) out.old (fault result) out.new }
+    ensures { Controls.Measured lists.now.wholes.now lists.now.reals.now (buffers floats.now words.now path.now) out.old (fault result) out.new }
 {
-    held_fault(floats, words, path, wholes, reals)?;
+    held_fault(floats, words, path, lists)?;
     if out.is_empty() {
         return Err(Refusal::Space);
     }
-    let run = records::from::run_from(wholes, reals);
-    out[0] = showing::length(showing::points(run, path));
+    out[0] = showing::length(showing::points(lists.run(), path));
     Ok(())
 }
 
@@ -115,106 +111,51 @@ fn start_by(at: usize, count: usize) -> usize
     if count == 0 { 0 } else { at }
 }
 
-// A part's start and how many doubles it has, where there is place for them, and for a record in lists of these lengths.
-fn hand(
-    at: usize,
-    count: usize,
-    wholes: usize,
-    reals: usize,
-    out: &mut [u64],
-) -> Result<(), Refusal>
-    ensures { Controls.HandedBy at count (fitting wholes reals) out.old (fault result) out.new }
+// What a run shows: where each part starts in its buffer, and how many doubles it has.
+
+// Of a part that stands at a place, where there is room for the answer, and for a record in the lists.
+fn hand(at: usize, part: &[f64], lists: &Lists, out: &mut [u64]) -> Result<(), Refusal>
+    ensures { Controls.Handed at part.now lists.now.wholes.now lists.now.reals.now out.old (fault result) out.new }
 {
-    if !(records::from::fits(wholes, reals) & (2 <= out.len())) {
+    if !(lists.fits() & (2 <= out.len())) {
         return Err(Refusal::Space);
     }
-    out[0] = start_by(at, count) as u64;
-    out[1] = count as u64;
+    out[0] = start_by(at, part.len()) as u64;
+    out[1] = part.len() as u64;
     Ok(())
 }
 
-// Where field, norms and gradients stand in the floats.
-
-#[tactic(auto, unfolding(crate::specs::Controls::field_at))]
-fn field_at(p: Plan) -> usize
-    ensures { result ≡ Controls.field_at p }
+#[tactic(auto, unfolding(crate::specs::Controls::field_at, showing::specs::Shown::part_of))]
+pub fn field(floats: &[f64], lists: &Lists, out: &mut [u64]) -> Result<(), Refusal>
+    ensures { Controls.Handed (Controls.field_at (run_from lists.now.wholes.now lists.now.reals.now).plan) (field_of (run_from lists.now.wholes.now lists.now.reals.now) floats.now) lists.now.wholes.now lists.now.reals.now out.old (fault result) out.new }
 {
-    if showing::counted(p) {
-        return work::layout::at_x(p.n, p.t);
-    }
-    0
+    let run = lists.run();
+    let part = Shown::Field.part(run);
+    hand(part.at, showing::field(run, floats), lists, out)
 }
 
-#[tactic(auto, unfolding(crate::specs::Controls::norms_at))]
-fn norms_at(p: Plan) -> usize
-    ensures { result ≡ Controls.norms_at p }
+#[tactic(auto, unfolding(crate::specs::Controls::norms_at, showing::specs::Shown::part_of))]
+pub fn norms(floats: &[f64], lists: &Lists, out: &mut [u64]) -> Result<(), Refusal>
+    ensures { Controls.Handed (Controls.norms_at (run_from lists.now.wholes.now lists.now.reals.now).plan) (norms_of (run_from lists.now.wholes.now lists.now.reals.now) floats.now) lists.now.wholes.now lists.now.reals.now out.old (fault result) out.new }
 {
-    if showing::counted(p) {
-        return work::layout::at_norms(p.n, p.t);
-    }
-    0
+    let run = lists.run();
+    let part = Shown::Norms.part(run);
+    hand(part.at, showing::norms(run, floats), lists, out)
 }
 
-#[tactic(auto, unfolding(crate::specs::Controls::gradients_at))]
-fn gradients_at(p: Plan) -> usize
-    ensures { result ≡ Controls.gradients_at p }
+#[tactic(auto, unfolding(crate::specs::Controls::gradients_at, showing::specs::Shown::part_of))]
+pub fn gradients(floats: &[f64], lists: &Lists, out: &mut [u64]) -> Result<(), Refusal>
+    ensures { Controls.Handed (Controls.gradients_at (run_from lists.now.wholes.now lists.now.reals.now).plan) (gradients_of (run_from lists.now.wholes.now lists.now.reals.now) floats.now) lists.now.wholes.now lists.now.reals.now out.old (fault result) out.new }
 {
-    if showing::counted(p) {
-        return work::layout::at_gradients(p.n, p.t);
-    }
-    0
+    let run = lists.run();
+    let part = Shown::Gradients.part(run);
+    hand(part.at, showing::gradients(run, floats), lists, out)
 }
 
-// What a run shows: where each part starts in its buffer, and how many doubles it has.
-
-#[tactic(auto, unfolding(records::specs::Numbers::fits))]
-pub fn field(floats: &[f64], wholes: &[u64], reals: &[f64], out: &mut [u64]) -> Result<(), Refusal>
-    ensures { Controls.Handed (Controls.field_at (run_from wholes.now reals.now).plan) (field_of (run_from wholes.now reals.now) floats.now) wholes.now reals.now out.old (fault result) out.new }
+pub fn points(path: &[f64], lists: &Lists, out: &mut [u64]) -> Result<(), Refusal>
+    ensures { Controls.Handed 0 (points_of (run_from lists.now.wholes.now lists.now.reals.now) path.now) lists.now.wholes.now lists.now.reals.now out.old (fault result) out.new }
 {
-    let run = records::from::run_from(wholes, reals);
-    let part = showing::field(run, floats);
-    let plan = run.plan;
-    hand(field_at(plan), part.len(), wholes.len(), reals.len(), out)
-}
-
-#[tactic(auto, unfolding(records::specs::Numbers::fits))]
-pub fn norms(floats: &[f64], wholes: &[u64], reals: &[f64], out: &mut [u64]) -> Result<(), Refusal>
-    ensures { Controls.Handed (Controls.norms_at (run_from wholes.now reals.now).plan) (norms_of (run_from wholes.now reals.now) floats.now) wholes.now reals.now out.old (fault result) out.new }
-{
-    let run = records::from::run_from(wholes, reals);
-    let part = showing::norms(run, floats);
-    let plan = run.plan;
-    hand(norms_at(plan), part.len(), wholes.len(), reals.len(), out)
-}
-
-#[tactic(auto, unfolding(records::specs::Numbers::fits))]
-pub fn gradients(
-    floats: &[f64],
-    wholes: &[u64],
-    reals: &[f64],
-    out: &mut [u64],
-) -> Result<(), Refusal>
-    ensures { Controls.Handed (Controls.gradients_at (run_from wholes.now reals.now).plan) (gradients_of (run_from wholes.now reals.now) floats.now) wholes.now reals.now out.old (fault result) out.new }
-{
-    let run = records::from::run_from(wholes, reals);
-    let part = showing::gradients(run, floats);
-    let plan = run.plan;
-    hand(
-        gradients_at(plan),
-        part.len(),
-        wholes.len(),
-        reals.len(),
-        out,
-    )
-}
-
-#[tactic(auto, unfolding(records::specs::Numbers::fits))]
-pub fn points(path: &[f64], wholes: &[u64], reals: &[f64], out: &mut [u64]) -> Result<(), Refusal>
-    ensures { Controls.Handed 0 (points_of (run_from wholes.now reals.now) path.now) wholes.now reals.now out.old (fault result) out.new }
-{
-    let run = records::from::run_from(wholes, reals);
-    let part = showing::points(run, path);
-    hand(0, part.len(), wholes.len(), reals.len(), out)
+    hand(0, showing::points(lists.run(), path), lists, out)
 }
 
 // What refuses to tell the space of these counts and settings, for an answer of so many places.

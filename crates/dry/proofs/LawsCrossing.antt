@@ -102,9 +102,6 @@ module _ (stored : Option (Bor (List Float))) (plan : Plan) (d : Field) where
       is = λ words f sh gr. dry-over plan words (dry_of f s) i k h (λ z. n (sym (ap (λ (y : Dry). y.stand.walk.end) (c.is words f sh gr)) ∙ z)) ∙ c.is words f sh gr;
     }
 
-    pub crossed_done : (i k : ℕ) (r : Stand) → i ≡ k → Crossed stored plan d s i r → Crossed stored plan d s k r
-    crossed_done i k r e c = subst (λ (j : ℕ). Crossed stored plan d s j r) e c
-
 -- ---- the start pass
 
 found_in_lem : (d : Field) (g : Option Point) → StartIn (triangle_count d.mesh.triangles.now) (found_on d g)

@@ -1,5 +1,6 @@
 -- The phases of a dry count together: solving, the start pass, crossings; and crossings alone. Assumes nothing.
 use Rattle.std.specs.Prelude.{Option, Some, None}
+use Rattle.std.specs.Option.{ForSome}
 use denote.Ref.{Bor}
 use Prim.Native.Nat.{ℕ, zero, suc, ◌+◌, ◌-◌, ◌*◌, ◌≤◌, ◌<◌}
 use mathlib.Core.Path.{◌≡◌, refl, sym, ap, ◌∙◌, subst}
@@ -27,7 +28,7 @@ use Rattle.work.specs.Dry.{dry_of, dry_at, gain, Counts}
 use Rattle.work.specs.DryLaws.{dry_add, dry-over, dry_forth}
 use Rattle.work.specs.Ready.{Ready}
 use Rattle.dry.specs.Solving.{Solved}
-use Rattle.dry.specs.Crossing.{started_by, Enough, Ground, Going, Shows, Grades, Crossed, Settled, Scratched, Followable, Followed, anew}
+use Rattle.dry.specs.Crossing.{started_by, Ground, Going, Shows, Grades, Crossed, Settled, Scratched, Followable, Followed, anew}
 use Rattle.dry.proofs.LawsCrossing.{started_place, started_going, starts_once, shows_graded, grades_graded}
 
 -- ---- what is lent of the floats
@@ -36,22 +37,24 @@ pub lent_at : (l : List Float) (x at n : ℕ) → x ≡ at → take (x + n - x) 
 lent_at l x at n e = part_lent l x (x + n) n refl ∙ ap (λ (i : ℕ). part l i n) e
 
 module _ (plan : Plan) (floats : List Float) (gs : Bor (List Float)) (are : gs.now ≡ part floats (at_gradients plan.n plan.t) (2 * plan.t)) where
-  pub stored_enough : at_norms plan.n plan.t ≤ length floats → (k : ℕ) → k < plan.t → Enough (Some gs) k
-  stored_enough fits k h = omega (arith, ap length are, length_part floats (at_gradients plan.n plan.t) (2 * plan.t) (omega arith))
+  pub stored_enough : at_norms plan.n plan.t ≤ length floats → ForSome (Some gs) (λ x. 2 * plan.t ≤ length x.now)
+  stored_enough fits x e =
+      let same : gs ≡ x = cc in
+      omega (arith, ap (λ (y : Bor (List Float)). length y.now) same, ap length are, length_part floats (at_gradients plan.n plan.t) (2 * plan.t) (omega arith))
 
   stored_grades : (d : Field) (f : List Float) → part f (at_gradients plan.n plan.t) (2 * plan.t) ≡ part floats (at_gradients plan.n plan.t) (2 * plan.t) → Grades (Some gs) plan d f
   stored_grades d f e = record { at = λ k h. ap (λ (l : List Float). gradient_at l k) (e ∙ sym are) }
 
+pub none_stored : (t : ℕ) → ForSome {T = Bor (List Float)} None (λ gs. 2 * t ≤ length gs.now)
+none_stored t x e = cc
+
 pub ground_by : (stored : Option (Bor (List Float))) (plan : Plan) {words : List ℕ} {b : List Float} {d : Field} (u : ℕ) → Ready plan words → FieldStands b words (first_at plan.n plan.t) u d
-    → ((k : ℕ) → k < plan.t → Enough stored k) → Ground stored plan d
+    → ForSome stored (λ gs. 2 * plan.t ≤ length gs.now) → Ground stored plan d
 ground_by stored plan u r st enough = record { t_most = r.t_most; count = triangles_count r.linked st.mesh; enough = enough }
 
 -- ---- the path, by x and the vertices in the scratch
 
 module _ (plan : Plan) (words : List ℕ) (floats b : List Float) (s : Stand) (k : ℕ) where
-  pub going_from : (l : ℕ) → Followable plan words l b s k → (s.walk.points ≡ 0 → ⊥) → Going plan s
-  going_from l h n = record { standing = h.standing; solved = h.solved; some = omega arith }
-
   module _ (l : ℕ) (h : Followable plan words l b s k) (d : Field) (st : FieldStands b words (first_at plan.n plan.t) (2 * plan.n) d) where
     shows_on : (f : List Float) → Scratched plan floats b f → Shows plan words d f
     unfolding vertices_of triangles_of neighbours_of tags_of field_of
@@ -126,17 +129,6 @@ module _ (plan : Plan) (words : List ℕ) (floats : List Float) (s : Stand) (k :
       long = d.copied.long;
     }
 
-    pub followable : (r.end ≡ 0 → ⊥) → Followable plan words (length floats) b r (k - (r.place - s.place))
-    followable n = record {
-      ready = counts.ready;
-      standing = d.standing;
-      unended = d.unended;
-      solved = n;
-      near = omega (arith, counts.near, d.place);
-      floats_fit = omega (arith, counts.floats_fit);
-      scratch_fits = fits;
-    }
-
     pub followed_all : (r' : Stand) → Followed plan words floats b r (k - (r.place - s.place)) r' → r' ≡ (dry plan words k (dry_at plan floats s)).stand
     followed_all r' w =
         let i : ℕ = r.place - s.place in
@@ -158,21 +150,6 @@ module _ (plan : Plan) (words : List ℕ) (floats : List Float) (s : Stand) (k :
 
   -- the start pass counts crossings from 0, whatever the count was
   module _ (unended : s.walk.end ≡ 0) (over : s.end ≡ 0 → ⊥) (none : s.walk.points ≡ 0) where
-    pub counts_anew : Counts plan words s k floats → Counts plan words (anew s) k floats
-    counts_anew c = record {
-      ready = c.ready;
-      standing = record {
-        norms_least = c.standing.norms_least;
-        norms_most = c.standing.norms_most;
-        points_most = c.standing.points_most;
-        triangle_in = c.standing.triangle_in;
-        edge_in = c.standing.edge_in;
-        crossings_left = λ z h. absurd (omega (arith, none, h));
-      };
-      near = c.near;
-      floats_fit = c.floats_fit;
-    }
-
     set-anew : (f : List Float) (e : ℕ) (st : Option Entry) → set_out_step (anew s) f e st ≡ set_out_step s f e st
     unfolding set_out_step
     set-anew f e (Some at) = refl
@@ -212,9 +189,6 @@ module _ (plan : Plan) (words : List ℕ) (floats : List Float) (s : Stand) (k :
   gained_forth r e = omega (arith, ap (λ (x : Stand). x.place) e, dry_forth plan words (dry_at plan floats s) k)
 
   module _ (counts : Counts plan words s k floats) where
-    pub going_lent : (s.end ≡ 0 → ⊥) → (s.walk.points ≡ 0 → ⊥) → Going plan s
-    going_lent over some = record { standing = counts.standing; solved = over; some = omega (arith, some) }
-
     front : (at n : ℕ) → at + n ≤ at_norms plan.n plan.t → part (front_of plan floats) at n ≡ part floats at n
     front at n h = part_of_take floats (at_norms plan.n plan.t) at n h
 

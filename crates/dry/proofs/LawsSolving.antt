@@ -1,5 +1,5 @@
 -- Dry passes of solving against the passes on the copies: what a pass reads is the same in both, and so is what it leads to. Assumes nothing.
-use Prim.Native.Nat.{ℕ, ◌+◌, ◌-◌, ◌*◌, ◌≤◌, ◌<◌}
+use Prim.Native.Nat.{ℕ, ◌+◌, ◌*◌, ◌≤◌}
 use mathlib.Core.Path.{◌≡◌, refl, sym, ap, ap₂, ◌∙◌, subst}
 use mathlib.Core.List.{List}
 use native.Mathlib.Numerals.{add-one}
@@ -27,19 +27,14 @@ use Rattle.work.specs.declared.Plan.{Plan}
 use Rattle.work.specs.declared.Stand.{Stand}
 use Rattle.work.specs.Layout.{at_x, at_r, at_p, at_product, at_gradients, at_norms, matrix_at, vectors_at}
 use Rattle.work.specs.Memory.{Stepped, vectors_in, solved_step, solve_step, next_of, step_on, front_of, dry}
-use Rattle.work.specs.Dry.{dry_at, Counts}
+use Rattle.work.specs.Dry.{dry_at}
 use Rattle.work.specs.Ready.{Ready, Standing}
-use Rattle.work.specs.StandingLaws.{turn_of, step_standing, unsolved_norms}
-use Rattle.dry.specs.Solving.{turn_on, turned_stand, Solvable, Turns, Copied, Solved}
+use Rattle.work.specs.StandingLaws.{turn_of, step_standing}
+use Rattle.kinds.specs.Solving.{turned_stand}
+use Rattle.kinds.specs.SolvingLaws.{solved_turned}
+use Rattle.dry.specs.Solving.{turn_on, Turns, Copied, Solved}
 
 -- ---- one pass
-
--- what the answer tells of the stand
-solved_turned : (plan : Plan) (s : Stand) (f : List Float) (t : Turn) → (solved_step plan s f t).stand ≡ turned_stand plan s (answer_of t)
-unfolding solved_step answer_of
-solved_turned plan s f halted = refl
-solved_turned plan s f (reached x r norm) = refl
-solved_turned plan s f (moved u norm) = refl
 
 turned_place : (plan : Plan) (s : Stand) (a : Pass) → (turned_stand plan s a).place ≡ s.place + 1
 turned_place plan s Pass.Halted = refl
@@ -164,19 +159,3 @@ module _ (plan : Plan) (words : List ℕ) (floats : List Float) (s : Stand) wher
         standing = subst (Standing plan) stand (step_standing plan words f (dry plan words i (dry_at plan floats s)).stand rd (subst (Standing plan) d.stand d.standing));
         unended = ap (λ (x : Stand). x.walk.end) tu.stand ∙ ap (λ (w : Walk). w.end) (turned_walk plan r (answer_of (turn_on plan (matrix words floats (matrix_at plan.n plan.t)) v r))) ∙ d.unended;
       })
-
-  -- how many passes were made, by the places
-  pub solved_here : (i k : ℕ) (r : Stand) (v : List Float) → Solved plan words floats s i r v → i ≤ k → (r.end ≡ 0 → i ≡ k)
-      → Solved plan words floats s (r.place - s.place) r v × (r.place ≤ s.place + k) × (r.end ≡ 0 → r.place ≡ s.place + k)
-  solved_here i k r v d h all =
-      let p = d.place in
-      let e : r.place - s.place ≡ i = omega arith in
-      (rw e d, omega arith, λ z. omega (arith, all z))
-
-  pub solved-next : (k i m l : ℕ) (r : Stand) (v : List Float) → Counts plan words s k floats → i < k → r.end ≡ 0 → m ≡ plan.n → l ≡ 3 * plan.n → Solved plan words floats s i r v → Solvable plan m l r
-  solved-next k i m l r v c h z em el d = record {
-    many = em;
-    long = el;
-    near = omega (arith, c.near, d.place);
-    norms_few = omega (arith, unsolved_norms plan r d.standing z, c.ready.limit-most);
-  }

@@ -1,5 +1,6 @@
 -- The start pass and crossings by a field, with the gradients as they are stored or worked out. Definitions only. Assumes nothing.
 use Rattle.std.specs.Prelude.{◌≡◌, List, [], ℕ, ◌+◌, ◌*◌, ◌≤◌, ◌<◌, length, Float, Option, Some, None}
+use Rattle.std.specs.Option.{ForSome}
 use denote.Ref.{Bor}
 use Rattle.plane.specs.declared.Point.{Point}
 use Rattle.stretch.specs.Stretch.{part}
@@ -44,16 +45,11 @@ started_by plan d s = (set_out_step s [] (lost_by plan.start) (found_on d plan.s
 
 -- ---- what they ask
 
--- the gradients that are stored reach to triangle k
-abbrev pub Enough : Option (Bor (List Float)) → ℕ → Type 0
-Enough (Some gs) k = 2 * k + 1 < length gs.now
-Enough None k = Unit
-
 -- a field on the plan's triangles, and gradients on all of them, where they are stored
 pub record Ground (stored : Option (Bor (List Float))) (plan : Plan) (d : Field) : Type 0 where
   pub t_most : plan.t ≤ 8192
   pub count : triangle_count d.mesh.triangles.now ≡ plan.t
-  pub enough : (k : ℕ) → k < plan.t → Enough stored k
+  pub enough : ForSome stored (λ gs. 2 * plan.t ≤ length gs.now)
 
 -- a place of a path that has points
 pub record Going (plan : Plan) (s : Stand) : Type 0 where

@@ -1,32 +1,25 @@
 -- Passes of solving on copies of x, r and p, with the matrix as it stands in the lent buffers. Definitions only. Assumes nothing.
-use Rattle.std.specs.Prelude.{◌≡◌, List, ℕ, ◌+◌, ◌*◌, ◌≤◌, ◌<◌, leb, length, Float}
-use Rattle.binary64.specs.Number.{pick}
+use Rattle.std.specs.Prelude.{◌≡◌, List, ℕ, ◌+◌, ◌*◌, ◌≤◌, ◌<◌, length, Float}
 use Rattle.stretch.specs.Stretch.{part}
 use Rattle.sparse.specs.Sparse.{Entry}
 use Rattle.sparse.specs.Stored.{matrix}
 use Rattle.mesh.specs.Element.{flat}
-use Rattle.conjugate.specs.declared.Pass.{Pass}
 use Rattle.conjugate.specs.Solver.{Turn, pass}
 use Rattle.conjugate.specs.Placed.{answer_of}
 use Rattle.conjugate.specs.Beside.{vectors_of, left_by}
 use Rattle.work.specs.declared.Plan.{Plan}
 use Rattle.work.specs.declared.Stand.{Stand}
 use Rattle.work.specs.Layout.{at_x, at_r, at_p, at_gradients, at_norms, matrix_at}
-use Rattle.work.specs.Memory.{solved_stand, dry}
+use Rattle.work.specs.Memory.{dry}
 use Rattle.work.specs.Dry.{dry_at}
 use Rattle.work.specs.Ready.{Standing}
+use Rattle.kinds.specs.Solving.{turned_stand}
 
 -- ---- one pass
 
 -- what it comes to on the vectors v, with the matrix mat
 abbrev pub turn_on : Plan → List (List Entry) → List Float → Stand → Turn
 turn_on plan mat v s = pass flat mat plan.tolerance (vectors_of v plan.n s.rs)
-
--- the stand after it, by its answer
-abbrev pub turned_stand : Plan → Stand → Pass → Stand
-turned_stand plan s Pass.Halted = solved_stand s s.rs s.norms 2
-turned_stand plan s (Pass.Reached norm) = solved_stand s s.rs (s.norms + 1) 1
-turned_stand plan s (Pass.Moved rs norm) = solved_stand s rs (s.norms + 1) (pick (leb plan.limit s.norms) 3 0)
 
 -- it can be made, with a matrix of m rows and k places for the copies
 pub record Solvable (plan : Plan) (m k : ℕ) (s : Stand) : Type 0 where

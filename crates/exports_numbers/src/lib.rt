@@ -1,4 +1,5 @@
-// The library's functions under C names, for programs that compare them with the Rust. A point is passed as its two numbers.
+// The library's functions under C names, for programs that compare them with the Rust. C hands over a point as its two numbers and any number of places to put numbers in,
+// and is told a number.
 #![tactic(auto)]
 
 ghost use Rattle.std.specs.Prelude.{◌≡◌};

@@ -12,7 +12,7 @@ pub fn first_u32(s: &[u8]) -> u32
     u32::from_le_bytes(*s.first_chunk().unwrap())
 }
 
-// Puts bytes down from an index on.
+// Puts bytes down from an index on. The buffer is lent whole: a section is put down at a place in it.
 pub fn put(out: &mut [u8], at: usize, bytes: &[u8])
     requires { at + length bytes.now ≤ length out.old }
     ensures { out.new ≡ placed out.old at bytes.now }

@@ -3,13 +3,13 @@ ghost use Rattle.std.specs.Prelude.{◌≡◌};
 ghost use Rattle.refusal.specs.Refusal.{fault};
 ghost use Rattle.format.specs.Setting.{said, read_of};
 ghost use Rattle.format.specs.Refusal.{setting_fault, missing};
-ghost use Rattle.format.specs.Sheet.{setting_of, adding};
+ghost use Rattle.format.specs.Sheet.{setting_of, kind_of, value_of, adding};
 
-use crate::faults::{coordinate_fault, finite_fault, number_of, step_fault, whole_fault};
+use crate::faults::{coordinate_fault, finite_fault, number_of, pattern, step_fault, whole_fault};
 use crate::{Setting, Settings};
 use refusal::Refusal;
 
-// A kind and a value, as section 5 has them.
+// A kind and a value, as section 5 has them. The kind is a byte of the file; what it says is an enum from here on.
 #[tactic(auto, unfolding(crate::specs::Sheet::setting_of))]
 pub fn setting_of(kind: u8, value: u64) -> Result<Setting, Refusal>
     ensures { result ≡ read_of (setting_of kind value) }
@@ -22,6 +22,33 @@ pub fn setting_of(kind: u8, value: u64) -> Result<Setting, Refusal>
         5 => Ok(Setting::StartY(number_of(value)?)),
         6 => Ok(Setting::Room(value)),
         _ => Err(Refusal::Setting),
+    }
+}
+
+// The kind byte of a setting, a number of the file as `setting_of` reads it.
+#[tactic(auto, unfolding(crate::specs::Sheet::kind_of))]
+pub fn kind(s: Setting) -> u8
+    ensures { result ≡ kind_of (said s) }
+{
+    match s {
+        Setting::Limit(_) => 1,
+        Setting::Tolerance(_) => 2,
+        Setting::Step(_) => 3,
+        Setting::StartX(_) => 4,
+        Setting::StartY(_) => 5,
+        Setting::Room(_) => 6,
+    }
+}
+
+// Its value.
+#[tactic(auto, unfolding(crate::specs::Sheet::value_of))]
+pub fn value(s: Setting) -> u64
+    ensures { result ≡ value_of (said s) }
+{
+    match s {
+        Setting::Limit(v) | Setting::Room(v) => v,
+        Setting::Tolerance(x) | Setting::Step(x) | Setting::StartX(x) | Setting::StartY(x) =>
+            pattern(x),
     }
 }
 

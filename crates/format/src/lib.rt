@@ -5,6 +5,8 @@ pub mod bytes;
 pub mod faults;
 pub mod items;
 
+// Kinds of settings, tags and −1 are numbers of the file: they stay numbers, and each is tested as such.
+
 pub const MAX_VERTICES: usize = 4096;
 
 pub const MAX_TRIANGLES: usize = 8192;

@@ -6,6 +6,7 @@ use mathlib.Core.List.{List, [], ◌∷◌}
 use lib.Dec.{eqb, ltb}
 use Rattle.std.specs.List.{fold}
 use Rattle.mesh.specs.Mesh.{no_neighbour}
+use Rattle.work.specs.declared.Plan.{Plan}
 use Rattle.work.specs.declared.Run.{Run}
 use Rattle.image.specs.Calls.{Buffers, unless10, counts_fault, space_fault, stand_sound, mark_sound, all_none_or_below, words_sound, held_fault}
 use Rattle.refusal.specs.declared.Refusal.{Refusal}
@@ -28,12 +29,16 @@ module _ (r : Run) (b : Buffers) where
   unfolding held_fault
   held_counts e h = h ∙ sym (then_first (counts_fault r.plan) _ (λ z. refuses_some e (h ∙ z)))
 
-  pub held-space : 0 ≡ counts_fault r.plan → (e : Refusal) → number_of e ≡ space_fault r.plan b → number_of e ≡ held_fault r b
-  unfolding held_fault
-  held-space z e h = h ∙ sym (then_second (counts_fault r.plan) _ (sym z) ∙ then_first (space_fault r.plan b) _ (λ y. refuses_some e (h ∙ y)))
+  -- the other tests are of the plan that the first one handed out
+  module _ (p : Plan) (same : p ≡ r.plan) (passed : 0 ≡ counts_fault r.plan) where
+    pub held-space : (e : Refusal) → number_of e ≡ space_fault p b → number_of e ≡ held_fault r b
+    unfolding held_fault
+    held-space e h =
+        let g : number_of e ≡ space_fault r.plan b = rw same at h in
+        g ∙ sym (then_second (counts_fault r.plan) _ (sym passed) ∙ then_first (space_fault r.plan b) _ (λ y. refuses_some e (g ∙ y)))
 
-  pub held_sound : (s m w t : Bool) → 0 ≡ counts_fault r.plan → 0 ≡ space_fault r.plan b
-      → s ≡ stand_sound r.plan r.stand → m ≡ mark_sound r.plan r.mark → w ≡ words_sound r.plan b.words → (s && (m && w)) ≡ t → unless10 t ≡ held_fault r b
-  unfolding held_fault
-  held_sound s m w t z y es em ew et =
-      sym (then_second (counts_fault r.plan) _ (sym z) ∙ then_second (space_fault r.plan b) _ (sym y) ∙ rw (← es, ← em, ← ew, et))
+    pub held_sound : (s m w t : Bool) → 0 ≡ space_fault p b → s ≡ stand_sound p r.stand → m ≡ mark_sound p r.mark → w ≡ words_sound p b.words → (s && (m && w)) ≡ t → unless10 t ≡ held_fault r b
+    unfolding held_fault
+    held_sound s m w t y es em ew et =
+        let h : 0 ≡ space_fault r.plan b = rw same at y in
+        sym (then_second (counts_fault r.plan) _ (sym passed) ∙ then_second (space_fault r.plan b) _ (sym h) ∙ rw (← same, ← es, ← em, ← ew, et))

@@ -1,9 +1,10 @@
-// What refuses a call: the record's counts, the lent space, and every index and count that a pass would use; and what the calls share that are not refused.
+// What refuses a call: the record's counts, the lent space, and every index and count that a pass would use; and what the calls that are not refused share.
+// A record is whatever numbers C hands over, and its place is tested only after the lengths of the lent buffers: so its ends, edge, triangle and counts are numbers here, and any have to fit.
+// The lent buffers are three parameters: `&` and `&mut` say which of them a function writes.
 #![tactic(auto)]
 
-ghost use Rattle.std.specs.Prelude.{◌≡◌, ◌+◌, ◌*◌, ◌≤◌, min, eqb, length};
+ghost use Rattle.std.specs.Prelude.{◌≡◌, ◌+◌, ◌*◌, ◌≤◌, IfOk, eqb, length};
 ghost use Rattle.binary64.specs.Number.{pick};
-ghost use Rattle.stretch.specs.Stretch.{part};
 ghost use Rattle.model.specs.Space as Space;
 ghost use Rattle.image.specs.Calls as Calls;
 ghost use Rattle.refusal.specs.Refusal.{fault};
@@ -13,15 +14,9 @@ ghost use Rattle.image.specs.Exits.{moved_run};
 ghost use Rattle.work.specs.Ready.{Comes};
 
 use refusal::Refusal;
-use work::{Kept, Plan, Run, Stand};
+use work::{Kept, Laid, Plan, Run, Stand};
 
-pub fn least(a: usize, b: usize) -> usize
-    ensures { result ≡ min a b }
-{
-    if a <= b { a } else { b }
-}
-
-// The greatest place that a run of t triangles can reach.
+// The greatest place that a run of t triangles can reach. Two counts, and no method of Plan: those stand in crate work, which knows no calls.
 pub fn farthest(t: usize, limit: usize) -> usize
     requires { (t ≤ 8192) × (limit ≤ 100000) }
     ensures { result ≡ Space.farthest t limit }
@@ -29,64 +24,7 @@ pub fn farthest(t: usize, limit: usize) -> usize
     limit + 1 + Run::FACTOR * t
 }
 
-fn counts_fault(p: Plan) -> Result<(), Refusal>
-    ensures { fault result ≡ Calls.counts_fault p }
-{
-    let good = (p.n <= 4096)
-        & ((p.t <= 8192) & ((p.limit <= 100000) & ((1 <= p.room) & (p.room <= 1000000))));
-    if good { Ok(()) } else { Err(Refusal::Record) }
-}
-
-// A buffer of these lengths may be too short.
-fn space_fault(p: Plan, floats: usize, words: usize, path: usize) -> Result<(), Refusal>
-    requires { (p.n ≤ 4096) × (p.t ≤ 8192) × (p.limit ≤ 100000) × (p.room ≤ 1000000) }
-    ensures { fault result ≡ Calls.short_fault p floats words path }
-{
-    let needed = p.space();
-    let short = needed.lacks(floats, words, path);
-    if short { Err(Refusal::Space) } else { Ok(()) }
-}
-
-// How many norms there may be: one more than the limit where the field has its end.
-fn norms_most(limit: usize, end: usize) -> usize
-    requires { limit ≤ 100000 }
-    ensures { result ≡ limit + pick (eqb end 0) 0 1 }
-{
-    if end == 0 {
-        return limit;
-    }
-    limit + 1
-}
-
-// The counts of a place.
-fn stand_sound(p: Plan, s: Stand) -> bool
-    requires { (p.t ≤ 8192) × (p.limit ≤ 100000) }
-    ensures { result ≡ Calls.stand_sound p s }
-{
-    let most = Run::FACTOR * p.t;
-    let w = s.walk;
-    let norms = norms_most(p.limit, s.end);
-    let left = (w.end != 0) | (s.crossings < most);
-    let walking = (w.points == 0) | ((w.triangle < p.t) & left);
-    let path = (w.points <= p.room) & ((s.crossings <= most) & walking);
-    let within = (w.triangle == 0) | (w.triangle < p.t);
-    let ends = (s.end <= 3) & ((w.end <= 9) & ((w.edge <= 3) & (within & path)));
-    let far = farthest(p.t, p.limit);
-    (s.place <= far) & ((1 <= s.norms) & ((s.norms <= norms) & ends))
-}
-
-fn mark_sound(p: Plan, mark: Option<Kept>) -> bool
-    requires { (p.t ≤ 8192) × (p.limit ≤ 100000) }
-    ensures { result ≡ Calls.mark_sound p mark }
-{
-    match mark {
-        None => true,
-        Some(k) => (k.place <= farthest(p.t, p.limit))
-            & ((1 <= k.norms) & (k.norms <= p.limit + 1)),
-    }
-}
-
-// Whether the words are −1's or below t.
+// Whether the words are −1's or below t: a word is 32 bits that C lends, so none is a number.
 fn all_none_or_below(words: &[u32], t: u32) -> bool
     ensures { result ≡ Calls.all_none_or_below t words.now }
 {
@@ -97,33 +35,104 @@ fn all_none_or_below(words: &[u32], t: u32) -> bool
     )
 }
 
-// The indices in the words.
-fn words_sound(p: Plan, words: &[u32]) -> bool
-    requires { (p.n ≤ 4096) × (p.t ≤ 8192) × (Space.word_space p.n p.t ≤ length words.now) }
-    ensures { result ≡ Calls.words_sound p words.now }
-{
-    let n = p.n;
-    let t = p.t;
-    let starts_at = n + 6 * t;
-    let columns_at = starts_at + n + 1;
-    let count = 9 * t + n;
-    let corners = sparse::all_below(&words[..3 * t], n as u32);
-    let neighbours = all_none_or_below(&words[3 * t..6 * t], t as u32);
-    let starts = sparse::starts_rise(&words[starts_at..columns_at], count);
-    let columns = sparse::all_below(&words[columns_at..columns_at + count], n as u32);
-    corners & (neighbours & (starts & columns))
+// A plan whose counts are in their ranges.
+#[derive(Clone, Copy)]
+struct Counted<'a> {
+    plan: &'a Plan,
+    ghost counts: { (plan.now.n ≤ 4096) × (plan.now.t ≤ 8192) × (plan.now.limit ≤ 100000) × (plan.now.room ≤ 1000000) },
+}
+
+impl<'a> Counted<'a> {
+    // The plan, where its counts are in their ranges. A named function and no `TryFrom`: it has one caller, and answers the refusal. `as usize`: a u64 is no `Into<usize>`.
+    fn of(plan: &'a Plan) -> Result<Counted<'a>, Refusal>
+        ensures refused { fault result ≡ Calls.counts_fault plan.now }
+        ensures same { IfOk result (λ c. c.plan.now ≡ plan.now) }
+    {
+        let good = (plan.n <= format::MAX_VERTICES)
+            & ((plan.t <= format::MAX_TRIANGLES)
+                & ((plan.limit <= format::MAX_LIMIT as usize)
+                    & ((1 <= plan.room) & (plan.room <= format::MAX_ROOM as usize))));
+        if good {
+            Ok(Counted { plan })
+        } else {
+            Err(Refusal::Record)
+        }
+    }
+
+    // A buffer of these lengths may be too short.
+    fn space_fault(&self, floats: usize, words: usize, path: usize) -> Result<(), Refusal>
+        ensures { fault result ≡ Calls.short_fault self.now.plan.now floats words path }
+    {
+        let needed = self.plan.space();
+        let short = needed.lacks(floats, words, path);
+        if short { Err(Refusal::Space) } else { Ok(()) }
+    }
+
+    // How many norms there may be: one more than the limit where the field has its end.
+    fn norms_most(&self, end: usize) -> usize
+        ensures { result ≡ self.now.plan.now.limit + pick (eqb end 0) 0 1 }
+    {
+        if end == 0 {
+            self.plan.limit
+        } else {
+            self.plan.limit + 1
+        }
+    }
+
+    // The counts of a place.
+    fn stand_sound(&self, s: Stand) -> bool
+        ensures { result ≡ Calls.stand_sound self.now.plan.now s }
+    {
+        let p = self.plan;
+        let most = Run::FACTOR * p.t;
+        let w = s.walk;
+        let norms = self.norms_most(s.end);
+        let left = (w.end != 0) | (s.crossings < most);
+        let walking = (w.points == 0) | ((w.triangle < p.t) & left);
+        let path = (w.points <= p.room) & ((s.crossings <= most) & walking);
+        let within = (w.triangle == 0) | (w.triangle < p.t);
+        let ends = (s.end <= 3) & ((w.end <= 9) & ((w.edge <= 3) & (within & path)));
+        let far = farthest(p.t, p.limit);
+        (s.place <= far) & ((1 <= s.norms) & ((s.norms <= norms) & ends))
+    }
+
+    // The counts of a mark.
+    #[tactic(auto, unfolding(image::specs::Calls::mark_sound))]
+    fn mark_sound(&self, mark: Option<Kept>) -> bool
+        ensures { result ≡ Calls.mark_sound self.now.plan.now mark }
+    {
+        let p = self.plan;
+        let far = farthest(p.t, p.limit);
+        let norms = p.limit + 1;
+        mark.is_none_or(|k| (k.place <= far) & ((1 <= k.norms) & (k.norms <= norms)))
+    }
+
+    // The indices in the words. The same places as in `Plan::matrix`, which asks that the words are sound; here that is tested.
+    // The casts keep n and t, which are below 2^32 as the words are.
+    fn words_sound(&self, words: &[u32]) -> bool
+        requires { Space.word_space self.now.plan.now.n self.now.plan.now.t ≤ length words.now }
+        ensures { result ≡ Calls.words_sound self.now.plan.now words.now }
+    {
+        let n = self.plan.n;
+        let t = self.plan.t;
+        let starts_at = n + 6 * t;
+        let columns_at = starts_at + n + 1;
+        let count = 9 * t + n;
+        let corners = sparse::all_below(&words[..3 * t], n as u32);
+        let neighbours = all_none_or_below(&words[3 * t..6 * t], t as u32);
+        let starts = sparse::starts_rise(&words[starts_at..columns_at], count);
+        let columns = sparse::all_below(&words[columns_at..columns_at + count], n as u32);
+        corners & (neighbours & (starts & columns))
+    }
 }
 
 // What refuses any call on this record and these buffers.
 pub fn held_fault(run: Run, floats: &[f64], words: &[u32], path: &[f64]) -> Result<(), Refusal>
     ensures { fault result ≡ Calls.held_fault run (buffers floats.now words.now path.now) }
 {
-    let p = run.plan;
-    counts_fault(p)?;
-    space_fault(p, floats.len(), words.len(), path.len())?;
-    let s = run.stand;
-    let mark = run.mark;
-    let sound = stand_sound(p, s) & (mark_sound(p, mark) & words_sound(p, words));
+    let p = Counted::of(&run.plan)?;
+    p.space_fault(floats.len(), words.len(), path.len())?;
+    let sound = p.stand_sound(run.stand) & (p.mark_sound(run.mark) & p.words_sound(words));
     if sound { Ok(()) } else { Err(Refusal::Record) }
 }
 
@@ -143,8 +152,9 @@ pub fn seek(run: Run, target: usize, floats: &mut [f64], words: &[u32], path: &m
     requires { Accepted run (buffers floats.old words.now path.old) × (target ≤ Space.farthest run.plan.t run.plan.limit) }
     ensures { Comes (sought_at run (buffers floats.old words.now path.old) target) result floats.new path.new }
 {
-    let plan = run.plan;
-    let stand = run.stand;
-    let mark = run.mark;
-    seek::seek(floats, words, path, plan, stand, mark, target)
+    let laid = Laid {
+        plan: run.plan,
+        words,
+    };
+    seek::seek(floats, path, &laid, run.stand, run.mark, target)
 }

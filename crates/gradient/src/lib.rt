@@ -1,11 +1,11 @@
-// The gradient of the field on each triangle.
+// The gradient of the field on each triangle. Mesh and values stand apart: there may be more values than vertices, and `Field`, which is both, is of `pde`.
 #![tactic(auto)]
 
 ghost use Rattle.std.specs.Prelude.{◌≡◌, ◌*◌, ◌≤◌, ◌<◌, length};
 ghost use Rattle.gradient.specs.Gradient.{triangle_gradient, gradient_on, gradients};
 ghost use Rattle.mesh.specs.Mesh.{triangle_count};
 
-use mesh::Mesh;
+use mesh::{Mesh, Slope};
 use plane::Point;
 
 // The gradient of the field that is ui, uj, uk at a triangle's corners; (0, 0) where twice its area is below `flat` in magnitude.
@@ -20,19 +20,16 @@ pub fn triangle_gradient(
 ) -> Point
     ensures { result ≡ triangle_gradient flat vi vj vk ui uj uk }
 {
-    let bi = vj.y - vk.y;
-    let ci = vk.x - vj.x;
-    let bj = vk.y - vi.y;
-    let cj = vi.x - vk.x;
-    let bk = vi.y - vj.y;
-    let ck = vj.x - vi.x;
-    let area2 = bi * cj - bj * ci;
+    let si = Slope::facing(vj, vk);
+    let sj = Slope::facing(vk, vi);
+    let sk = Slope::facing(vi, vj);
+    let area2 = si.area2(sj);
     if binary64::abs(area2) < flat {
         return Point { x: 0.0, y: 0.0 };
     }
     Point {
-        x: (bi * ui + bj * uj + bk * uk) / area2,
-        y: (ci * ui + cj * uj + ck * uk) / area2,
+        x: (si.b * ui + sj.b * uj + sk.b * uk) / area2,
+        y: (si.c * ui + sj.c * uj + sk.c * uk) / area2,
     }
 }
 
@@ -50,7 +47,7 @@ pub fn gradient_in(mesh: &Mesh, u: &[f64], flat: f64, t: usize) -> Point
     triangle_gradient(flat, vi, vj, vk, u[i], u[j], u[k])
 }
 
-// The gradients on all triangles. By number: of a slice that is written through its chunks the check knows only the length.
+// The gradients on all triangles, by their numbers: of a slice that is written through its chunks only the length is known.
 pub fn compute_gradient_field(mesh: &Mesh, u: &[f64], flat: f64, out: &mut [f64])
     requires { (length mesh.now.tags.now ≤ length u.now) × (length out.old ≡ 2 * triangle_count mesh.now.triangles.now) }
     ensures { out.new ≡ gradients flat mesh.now.vertices.now u.now mesh.now.triangles.now }

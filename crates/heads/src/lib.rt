@@ -1,4 +1,5 @@
 // An accepted sheet's head and settings as lists of numbers, and a sheet written from them, for callers that hold no struct of Rattle's: a setting is a presence and a number.
+// The lists, their lengths and the places in them are C's: each number goes to its place, a usize as the u64 of the same value.
 #![tactic(auto)]
 
 pub mod items;
@@ -23,10 +24,7 @@ fn settings_fit(wholes: usize, reals: usize) -> bool
 fn given_from<T: Copy>(presence: u64, number: T) -> Option<T>
     ensures { result ≡ Heads.given_by presence number }
 {
-    match presence {
-        0 => None,
-        _ => Some(number),
-    }
+    (presence != 0).then_some(number)
 }
 
 #[tactic(auto, unfolding(crate::specs::Heads::settings_from))]
@@ -55,10 +53,7 @@ pub fn settings_from(wholes: &[u64], reals: &[f64]) -> Settings
 fn put_presence<T: Copy>(given: Option<T>, out: &mut [u64], at: usize)
     ensures { out.new ≡ set out.old at (Heads.presence given) }
 {
-    match given {
-        None => put(out, at, 0),
-        Some(_) => put(out, at, 1),
-    }
+    put(out, at, u64::from(given.is_some()));
 }
 
 fn put_number<T: Copy>(given: Option<T>, out: &mut [T], at: usize)

@@ -19,8 +19,8 @@ use Rattle.work.specs.Ready.{Comes}
 use Rattle.work.specs.Seek.{Seeks}
 use Rattle.work.specs.StandingLaws.{goes_place}
 use Rattle.refusal.specs.declared.Refusal.{Refusal}
-use Rattle.refusal.specs.declared.Refusal.TheVariants.{NoMark}
 use Rattle.refusal.specs.Refusal.{number_of}
+use Rattle.image.specs.Answer.{Answer}
 use Rattle.image.specs.Accepted.{Accepted}
 use Rattle.image.specs.Exits.{moved_run, over_fault}
 use Rattle.image.proofs.AcceptedLaws.{accepted, then_first, then_second}
@@ -30,23 +30,25 @@ use Rattle.image.specs.Calls.{Buffers, buffers, answered, answer_of, held_fault,
 -- ---- the exits of a call
 
 module _ (c : Call) (r : Run) (b : Buffers) where
-  unchanged : (e : Refusal) → fault c r b ≡ number_of e → Does c r b (answered (number_of e) r) b
+  unchanged : (e : ℕ) (a : Answer) → a ≡ answered e r → fault c r b ≡ e → (e ≡ 0 → ⊥) → Does c r b a b
   unfolding run_after buffers_after
-  unchanged e f =
-      let n : _ = ne_eqb (number_of e) 0 (refuses_some e) in
-      record { said = sym f; left = rw (f, n); held = rw (f, n) }
+  unchanged e a q f n = rw q (record { said = sym f; left = rw (f, ne_eqb e 0 n); held = rw (f, ne_eqb e 0 n) })
 
   -- refused for what the record and the buffers hold
-  pub does_early : (e : Refusal) (left : Result Run Refusal) → IsErrAnd left (λ y. y ≡ e) → number_of e ≡ held_fault r b → Does c r b (answer_of r left) b
+  pub does_early : (e : ℕ) (a : Answer) → a ≡ answered e r → e ≡ held_fault r b → (e ≡ 0 → ⊥) → Does c r b a b
   unfolding fault
-  does_early e left w h =
-      let p = err_from_is_err_and left w in
-      rw (p.1, p.2) (unchanged e (then_first (held_fault r b) (late_fault c r b) (λ (z : held_fault r b ≡ 0). refuses_some e (h ∙ z)) ∙ sym h))
+  does_early e a q h n = unchanged e a q (then_first (held_fault r b) (late_fault c r b) (λ (z : held_fault r b ≡ 0). n (h ∙ z)) ∙ sym h) n
 
   -- refused for the call
-  pub does_late : (e : Refusal) → held_fault r b ≡ 0 → number_of e ≡ late_fault c r b → Does c r b (answered (number_of e) r) b
+  pub does_late : (e : ℕ) (a : Answer) → a ≡ answered e r → held_fault r b ≡ 0 → e ≡ late_fault c r b → (e ≡ 0 → ⊥) → Does c r b a b
   unfolding fault
-  does_late e h l = unchanged e (then_second (held_fault r b) (late_fault c r b) h ∙ sym l)
+  does_late e a q h l n = unchanged e a q (then_second (held_fault r b) (late_fault c r b) h ∙ sym l) n
+
+  -- an outcome that hands on a refusal
+  pub refused_early : (e : Refusal) (left : Result Run Refusal) → IsErrAnd left (λ y. y ≡ e) → number_of e ≡ held_fault r b → Does c r b (answer_of r left) b
+  refused_early e left w h =
+      let p = err_from_is_err_and left w in
+      rw (p.1, p.2) (does_early (number_of e) (answered (number_of e) r) refl h (refuses_some e))
 
   -- done
   pub does_next : (r' : Run) (floats path : List Float) → held_fault r b ≡ 0 → late_fault c r b ≡ 0 → r' ≡ next_run c r b
@@ -129,10 +131,13 @@ module _ (r : Run) (b : Buffers) (cleared : 0 ≡ held_fault r b) where
     unfolding gone
     late_is = ap (over_fault r.passes) (gain_sought r b target ahead) ∙ ap (λ (j : ℕ). over_fault r.passes ((sought_at r b j).stand.place - r.stand.place)) e
 
-    pub advance_late : (x : Refusal) (left : Result Run Refusal) → IsErrAnd left (λ y. y ≡ x) → number_of x ≡ gained_fault → Does (advance k) r b (answer_of r left) b
-    advance_late x left w h =
+    pub advance_late : (late : ℕ) → late ≡ gained_fault → (a : Answer) → a ≡ answered late r → (late ≡ 0 → ⊥) → Does (advance k) r b a b
+    advance_late late l a q n = does_late (advance k) r b late a q z (l ∙ late_is) n
+
+    pub advance_refused : (x : Refusal) (left : Result Run Refusal) → IsErrAnd left (λ y. y ≡ x) → number_of x ≡ gained_fault → Does (advance k) r b (answer_of r left) b
+    advance_refused x left w h =
         let p = err_from_is_err_and left w in
-        rw (p.1, p.2) (does_late (advance k) r b x z (h ∙ late_is))
+        rw (p.1, p.2) (advance_late (number_of x) h (answered (number_of x) r) refl (refuses_some x))
 
     module _ (s : Stand) (floats path : List Float) (w : Comes (sought_at r b target) s floats path) where
       -- the place rises, and the count fits
@@ -164,7 +169,7 @@ module _ (r : Run) (b : Buffers) (cleared : 0 ≡ held_fault r b) where
         (w.path ∙ ap (λ (j : ℕ). (sought_at r b j).path) t)
 
   pub return_late : r.mark ≡ None → Does return r b (answered 9 r) b
-  return_late e = does_late return r b NoMark z (rw e)
+  return_late e = does_late return r b 9 (answered 9 r) refl z (rw e) (λ y. omega (arith, y))
 
   pub mark_done : (floats : List Float) → floats ≡ kept_floats r.plan b.floats
       → Does mark r b (answered 0 (record { plan = r.plan; stand = r.stand; mark = Some (kept_of r.stand); passes = r.passes })) (buffers floats b.words b.path)

@@ -28,7 +28,6 @@ use Rattle.work.specs.Layout.{at_norms, matrix_at}
 use Rattle.work.specs.Memory.{Stepped, vectors_in, solved_step, set_out_step, solve_step, start_by, begin_step, crossing_of, cross_step, step_by, next_of, step_on, Work, floats_given, path_given, front_of, beyond_front, once}
 use Rattle.image.proofs.ImageLawsDry.{front_long, joined_long}
 use Rattle.plane.specs.declared.Point.{Point}
-use Rattle.work.specs.declared.Kept.{Kept}
 use Rattle.pde.specs.declared.Entry.{Entry}
 
 -- ---- one list

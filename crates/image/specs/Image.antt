@@ -1,7 +1,6 @@
 -- The record and the buffers that the uninterrupted run of a task has at a place, with a mark, a pass count and what was lent beyond the places used. Definitions only. Assumes nothing.
 use Rattle.std.specs.Prelude.{ℕ, ◌+◌, ◌*◌, List, [], ◌∷◌, ◌++◌, length, replicate, drop, Float, Option, Some, None}
 use Rattle.binary64.specs.Constants.{plus_zero}
-use Rattle.plane.specs.declared.Point.{Point}
 use Rattle.stretch.specs.Stretch.{flat}
 use Rattle.pde.specs.Path.{point_floats, coordinates_of}
 use Rattle.laplace.specs.Placed.{values_of, columns_of, starts_of, padded}

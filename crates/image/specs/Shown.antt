@@ -1,6 +1,5 @@
 -- What document 01 compares after a list of calls (Counter machine), as one statement on a task, the machine's state, a record and the three buffers. Definitions only. Assumes nothing.
-use Rattle.std.specs.Prelude.{ℕ, ◌+◌, ◌-◌, ◌*◌, ◌≤◌, ◌<◌, ◌≡◌, false, List, [], ◌∷◌, eqb, length, get_or, replicate, Float}
-use Rattle.std.proofs.Math.Option.{none, some}
+use Rattle.std.specs.Prelude.{ℕ, ◌+◌, ◌-◌, ◌*◌, ◌≤◌, ◌<◌, ◌≡◌, false, List, [], ◌∷◌, eqb, length, get_or, replicate, Float, Some, None}
 use Rattle.binary64.specs.Constants.{plus_zero, one}
 use Rattle.binary64.specs.Number.{pick}
 use Rattle.stretch.specs.Stretch.{part}
@@ -71,7 +70,7 @@ pub record Symmetric (n : ℕ) (tags : List ℕ) (rows : List (List Entry)) : Ty
   pub below : (i : ℕ) → i < n → Below n (get_or rows i [])
   pub transposed : (i j : ℕ) → i < n → j < n → value_at (get_or rows i []) j ≡ value_at (get_or rows j []) i
   pub held_row : (i : ℕ) → i < n → free tags i ≡ false → get_or rows i [] ≡ entry i one ∷ []
-  pub held_column : (i j : ℕ) → i < n → free tags j ≡ false → value_at (get_or rows i []) j ≡ pick (eqb i j) (some one) none
+  pub held_column : (i j : ℕ) → i < n → free tags j ≡ false → value_at (get_or rows i []) j ≡ pick (eqb i j) (Some one) None
 
 -- ---- the statement
 

@@ -1,20 +1,18 @@
 -- Laws of the kinds of pass that the proofs share. Assumes nothing.
 use Rattle.std.specs.Prelude.{Option, Some, None}
 use mathlib.Core.Path.{◌≡◌, refl, sym, ap, ◌∙◌}
-use mathlib.Core.Logic.{inl}
 use mathlib.Core.List.{List, [], ◌++◌}
 use Prim.Native.Nat.{ℕ, ◌+◌, ◌-◌, ◌*◌, ◌≤◌, ◌<◌}
 use native.Mathlib.Omega.{arith}
 use borrow.Author.Tests.{eq-eqb, ne_eqb}
-use lib.Dec.{eqb, leb}
-use lib.ListN.{length, replicate, take, drop, take-append-drop}
-use Rattle.std.proofs.Math.Seq.{drop-drop}
+use lib.Dec.{eqb}
+use lib.ListN.{length, replicate, take, drop, length-drop, take-append-drop}
+use Rattle.std.proofs.lemmas.List.{drop-drop, take_at, length-take-le}
 use lib.Ieee.{Float}
 use Rattle.binary64.specs.Constants.{plus_zero}
-use Rattle.binary64.specs.Number.{pick}
 use Rattle.plane.specs.declared.Point.{Point}
 use Rattle.stretch.specs.Stretch.{part, splice}
-use Rattle.stretch.specs.StretchLaws.{length_part, length-splice, part_all, part_of_take, splice_comm, take-splice_to}
+use Rattle.stretch.specs.StretchLaws.{length_part, length-splice, part_all, part_of_take, splice_comm, splice_is, take-splice_to}
 use Rattle.sparse.specs.Sparse as Sparse
 use Rattle.sparse.specs.Stored.{matrix}
 use Rattle.sparse.specs.ProductLaws.{length-rows_of, matrix_kept}
@@ -22,11 +20,10 @@ use Rattle.mesh.specs.Element.{flat}
 use Rattle.mesh.specs.Mesh.{triangle_count}
 use Rattle.mesh.specs.Work.{vertices_of, triangles_of, neighbours_of, tags_of, first_at, Linked}
 use Rattle.conjugate.specs.declared.Pass.{Pass}
-use Rattle.conjugate.specs.Passes.{Passes, solve}
-use Rattle.conjugate.specs.Solver.{Solve, Turn, halted, reached, moved}
+use Rattle.conjugate.specs.Solver.{Solve, Turn, halted, reached, moved, pass}
 use Rattle.conjugate.specs.SolverLaws.{Long, after, after_long}
-use Rattle.conjugate.specs.Placed.{InRow, Laid, Passed, stored_after, placed}
-use Rattle.conjugate.specs.PlacedLaws.{Adjoin, passed_of, halted_of, reached_of, moved_of}
+use Rattle.conjugate.specs.Placed.{InRow, Passed, row_of, read, stored_after, placed}
+use Rattle.conjugate.specs.PlacedLaws.{Adjoin, passed_in}
 use Rattle.gradient.specs.Gradient.{gradients}
 use Rattle.pde.specs.declared.Walk.{Walk}
 use Rattle.pde.specs.declared.Crossing.{Crossing}
@@ -36,7 +33,7 @@ use Rattle.pde.specs.StandsLaws.{triangles_count, crossing_stands}
 use Rattle.pde.specs.Path.{point_floats, coordinates_of, ended, added}
 use Rattle.pde.specs.PathLaws.{walked_more}
 use Rattle.pde.specs.Crossing.{gradient_at, crossing, crossing_along}
-use Rattle.pde.specs.Work.{Fielded, field_of}
+use Rattle.pde.specs.Work.{field_of}
 use Rattle.model.specs.Space.{factor}
 use Rattle.model.specs.Run.{rule, nowhere}
 use Rattle.work.specs.declared.Gives.{Gives}
@@ -44,7 +41,7 @@ use Rattle.work.specs.declared.Plan.{Plan}
 use Rattle.work.specs.declared.Stand.{Stand}
 use Rattle.work.specs.declared.Step.{Step}
 use Rattle.work.specs.Layout.{at_x, at_r, at_p, at_product, at_gradients, at_norms, matrix_at, vectors_at}
-use Rattle.work.specs.Memory.{Stepped, vectors_in, solved_stand, solved_step, solve_step, set_out_step, walked_stand, crossed_stand, start_by, begin_step, crossing_from, crossing_of, cross_step, next_of, step_on, front_of, work, once}
+use Rattle.work.specs.Memory.{Stepped, vectors_in, solved_step, solve_step, set_out_step, walked_stand, crossed_stand, start_by, begin_step, crossing_from, crossing_of, cross_step, next_of, step_on, front_of, work, once}
 use Rattle.work.specs.Ready.{Ready, Crosses, Steps, Comes}
 use Rattle.work.specs.Kinds.{SetsOut, Searchable, Steppable, Leads, gradients_put, found_in, found_by, lost_by}
 use Rattle.work.specs.StartedLaws.{set_out-same, start_is}
@@ -53,71 +50,55 @@ use Rattle.work.proofs.Laws.{once_comes}
 use Rattle.pde.specs.declared.Entry.{Entry}
 use Rattle.kinds.specs.Found.{found_on, entry_at}
 use Rattle.kinds.specs.FoundLaws.{found_stands}
+use Rattle.kinds.specs.Solving.{turn_behind, turned_stand, given_by}
+use Rattle.kinds.specs.SolvingLaws.{solved_turned, solved_given}
 
 -- ---- a pass of solving
 
-solve_row : (plan : Plan) (l : ℕ) → at_norms plan.n plan.t ≤ l → InRow l (vectors_at plan.n plan.t) plan.n
-solve_row plan l h = record { r_after = omega arith; p_after = omega arith; product_after = omega arith; ends = omega arith }
-
 -- the vectors lie behind the matrix, one right after the other
-solve_laid : (plan : Plan) (words : List ℕ) (l : ℕ) → Ready plan words → l ≡ at_norms plan.n plan.t → Laid words l (matrix_at plan.n plan.t) (vectors_at plan.n plan.t)
-solve_laid plan words l r h = record { sound = r.sound; in_row = solve_row plan l (omega arith); values_fit = omega arith; values_outside = inl (omega arith) }
+solve_row : (n t l : ℕ) → at_norms n t ≤ l → InRow l (vectors_at n t) n
+solve_row n t l h = record { r_after = omega arith; p_after = omega arith; product_after = omega arith; ends = omega arith }
 
 solve_adjoin : (n t : ℕ) → Adjoin (vectors_at n t) n
 solve_adjoin n t = record { r_at = omega arith; p_at = omega arith; product_at = omega arith }
 
--- what stands behind the place k, and n behind that
-behind : (f : List Float) {u v : List Float} (k n m : ℕ) → u ≡ drop k f → v ≡ drop n u → m ≡ k + n → v ≡ drop m f
-behind f {u} {v} k n m eu ev em = ev ∙ ap (drop n) eu ∙ drop-drop n k f ∙ ap (λ (j : ℕ). drop j f) (sym em)
+-- a pass in a slice of the vectors is one at the front of what stands behind the matrix
+pub passed_behind : (n : ℕ) (behind new : List Float) (tolerance rs : Float) {m m' : List (List Sparse.Entry)} {answer : Pass} → m ≡ m' → length new ≡ 4 * n
+    → Passed (take (4 * n) behind) new n (row_of n) (pass flat m tolerance (read (take (4 * n) behind) (row_of n) n rs)) answer
+    → Passed (take (4 * n) behind) (take (4 * n) (new ++ drop (4 * n) behind)) n (row_of n) (pass flat m' tolerance (read (take (4 * n) behind) (row_of n) n rs)) answer
+passed_behind n behind new tolerance rs em long d =
+    let e : take (4 * n) (new ++ drop (4 * n) behind) ≡ new = take_at new (drop (4 * n) behind) (4 * n) long in
+    rw (e, ← em) d
 
-first_of_behind : (f : List Float) {u v : List Float} (k n : ℕ) → u ≡ drop k f → v ≡ take n u → v ≡ part f k n
-unfolding part
-first_of_behind f k n eu ev = ev ∙ ap (take n) eu
-
--- a pass by a matrix that stands in the buffers
-pub passes_by : (tolerance : Float) {m m' : List (List Sparse.Entry)} {u : Solve} {x r p : List Float} {answer : Pass} → m ≡ m' → Passes m flat tolerance u x r p answer → Passes m' flat tolerance u x r p answer
-passes_by tolerance e d = rw e at d
-
--- the pass on the parts of a front, split at its vectors
+-- and so one of the whole front
 module _ (plan : Plan) (words : List ℕ) (f : List Float) (s : Stand) (h : Steppable plan words f s) where
-  pub solve_passed : {k : ℕ} {b v₀ x₀ v₁ r₀ v₂ p₀ v₃ v₄ x r p q : List Float} {answer : Pass} → k ≡ at_x plan.n plan.t → b ≡ take k f → v₀ ≡ drop k f
-      → x₀ ≡ take plan.n v₀ → v₁ ≡ drop plan.n v₀ → r₀ ≡ take plan.n v₁ → v₂ ≡ drop plan.n v₁ → p₀ ≡ take plan.n v₂ → v₃ ≡ drop plan.n v₂ → v₄ ≡ drop plan.n v₃
-      → Passes (matrix words b (matrix_at plan.n plan.t)) flat plan.tolerance (solve x₀ r₀ p₀ s.rs) x r p answer → q ≡ replicate plan.n plus_zero
-      → Passed f (b ++ (x ++ (r ++ (p ++ (q ++ v₄))))) plan.n (vectors_at plan.n plan.t) (turn_of plan words f s) answer
-  solve_passed {k} {b} {v₀} {x₀} {v₁} {r₀} {v₂} {p₀} {v₃} {v₄} {x} {r} {p} {q} {answer} ek eb e₀ ex e₁ er e₂ ep e₃ e₄ d eq =
+  pub solve_passed : (b v v' : List Float) {k : ℕ} {answer : Pass} → k ≡ at_x plan.n plan.t → b ≡ take k f → v ≡ drop k f → length v' ≡ length v
+      → Passed (take (4 * plan.n) v) (take (4 * plan.n) v') plan.n (row_of plan.n) (turn_behind plan words b (take (4 * plan.n) v) s.rs) answer → drop (4 * plan.n) v' ≡ drop (4 * plan.n) v
+      → Passed f (b ++ v') plan.n (vectors_at plan.n plan.t) (turn_of plan words f s) answer
+  unfolding part
+  solve_passed b v v' {k} ek eb ev el d kept =
       let n : ℕ = plan.n in
       let t : ℕ = plan.t in
-      let f₀ : v₀ ≡ drop (at_x n t) f = e₀ ∙ ap (λ (i : ℕ). drop i f) ek in
-      let f₁ : v₁ ≡ drop (at_r n t) f = behind f (at_x n t) n (at_r n t) f₀ e₁ (omega arith) in
-      let f₂ : v₂ ≡ drop (at_p n t) f = behind f (at_r n t) n (at_p n t) f₁ e₂ (omega arith) in
-      let f₃ : v₃ ≡ drop (at_product n t) f = behind f (at_p n t) n (at_product n t) f₂ e₃ (omega arith) in
-      let f₄ : v₄ ≡ drop (at_product n t + n) f = behind f (at_product n t) n (at_product n t + n) f₃ e₄ (omega arith) in
       let fb : b ≡ take (at_x n t) f = eb ∙ ap (λ (i : ℕ). take i f) ek in
-      let kept : matrix words (take (at_x n t) f) (matrix_at n t) ≡ matrix words f (matrix_at n t) =
+      let fv : v ≡ drop (at_x n t) f = ev ∙ ap (λ (i : ℕ). drop i f) ek in
+      let lv : length v ≡ length f - at_x n t = ap length fv ∙ length-drop (at_x n t) f in
+      let fits : at_x n t + 4 * n ≤ length f = omega (arith, h.long) in
+      let long : length (take (4 * n) v') ≡ 4 * n = length-take-le (4 * n) v' (omega arith) in
+      let after : drop (4 * n) v ≡ drop (at_x n t + 4 * n) f = ap (drop (4 * n)) fv ∙ drop-drop (4 * n) (at_x n t) f in
+      let put : b ++ v' ≡ splice f (at_x n t) (take (4 * n) v') =
+      ap (λ (l : List Float). b ++ l) (sym (take-append-drop (4 * n) v')) ∙ rw (fb, kept, after) (sym (splice_is f (take (4 * n) v') (at_x n t) (4 * n) long fits)) in
+      let rows : matrix words (take (at_x n t) f) (matrix_at n t) ≡ matrix words f (matrix_at n t) =
       matrix_kept words f (take (at_x n t) f) (matrix_at n t) h.ready.sound (part_of_take f (at_x n t) (4 * n) (9 * t + n) (omega arith)) in
-      let fm : matrix words b (matrix_at n t) ≡ matrix words f (matrix_at n t) = ap (λ (z : List Float). matrix words z (matrix_at n t)) fb ∙ kept in
-      passed_of flat plan.tolerance s.rs (solve_laid plan words (length f) h.ready h.long) (solve_adjoin n t) fm
-      (first_of_behind f (at_x n t) n f₀ ex) (first_of_behind f (at_r n t) n f₁ er) (first_of_behind f (at_p n t) n f₂ ep) d
-      eq (cc (fb, f₄))
+      let same : matrix words b (matrix_at n t) ≡ matrix words f (matrix_at n t) = ap (λ (z : List Float). matrix words z (matrix_at n t)) fb ∙ rows in
+      passed_in f (take (4 * n) v) n (vectors_at n t) (solve_row n t (length f) (omega (arith, h.long))) (solve_adjoin n t) (ap (take (4 * n)) fv)
+      (matrix words f (matrix_at n t)) flat plan.tolerance s.rs (length-rows_of words f (matrix_at n t) n) (rw same at d) put
 
--- what is left of a front, and the answer, by what the pass comes to
-module _ (plan : Plan) (f : List Float) (s : Stand) (turn : Turn) (f' : List Float) (left : f' ≡ stored_after plan.n f (vectors_at plan.n plan.t) turn) (s' : Stand) where
-  leads_halted : turn ≡ halted → s' ≡ solved_stand s s.rs s.norms 2 → Leads (solved_step plan s f turn) (record { stand = s'; gives = Gives.Nothing }) f'
-  unfolding solved_step stored_after
-  leads_halted e es = let l = rw e at left in rw e (record { stand = es; gives = refl; front = l })
-
-  leads_reached : (x r : List Float) (norm : Float) → turn ≡ reached x r norm → s' ≡ solved_stand s s.rs (s.norms + 1) 1
-      → Leads (solved_step plan s f turn) (record { stand = s'; gives = Gives.Norm norm }) f'
-  unfolding solved_step stored_after
-  leads_reached x r norm e es = let l = rw e at left in rw e (record { stand = es; gives = refl; front = l })
-
-  -- the product is cleared before p is written, or after it
-  leads_moved : (u : Solve) (rs norm : Float) (end : ℕ) → turn ≡ moved u norm → u.rs ≡ rs → length u.p ≡ plan.n → end ≡ pick (leb plan.limit s.norms) 3 0
-      → s' ≡ solved_stand s rs (s.norms + 1) end → Leads (solved_step plan s f turn) (record { stand = s'; gives = Gives.Norm norm }) f'
-  unfolding solved_step stored_after placed
-  leads_moved u rs norm end e er el ee es =
-      let l = rw e at left in
-      rw (e, er, ← ee) (record { stand = es; gives = refl; front = l ∙ splice_comm _ (at_p plan.n plan.t) (at_product plan.n plan.t) u.p (replicate plan.n plus_zero) (omega arith) })
+-- what is left of a front: the product is cleared before p is written, or after it
+solved_front : (plan : Plan) (f : List Float) (s : Stand) (u : Solve) (turn : Turn) → Long plan.n (after u turn) → stored_after plan.n f (vectors_at plan.n plan.t) turn ≡ (solved_step plan s f turn).front
+unfolding solved_step stored_after placed
+solved_front plan f s u halted long = refl
+solved_front plan f s u (reached x r norm) long = refl
+solved_front plan f s u (moved v norm) long = splice_comm _ (at_p plan.n plan.t) (at_product plan.n plan.t) v.p (replicate plan.n plus_zero) (omega (arith, long.p_long))
 
 -- the pass as it stands in a front, at the plan's places
 module _ (plan : Plan) (words : List ℕ) (f : List Float) (s : Stand) (long : length f ≡ at_norms plan.n plan.t) where
@@ -133,22 +114,14 @@ module _ (plan : Plan) (words : List ℕ) (f : List Float) (s : Stand) (long : l
   after_is_long : Long plan.n (after vectors turn)
   after_is_long = after_long plan.n flat (matrix words f (matrix_at plan.n plan.t)) plan.tolerance vectors (length-rows_of words f (matrix_at plan.n plan.t) plan.n) vectors_long
 
-  module _ (f' : List Float) (answer : Pass) (passed : Passed f f' plan.n (vectors_at plan.n plan.t) turn answer) (s' : Stand) where
-    pub solve_halted : answer ≡ Pass.Halted → s' ≡ solved_stand s s.rs s.norms 2 → Leads (solve_step plan words f s) (record { stand = s'; gives = Gives.Nothing }) f'
-    unfolding solve_step
-    solve_halted e es = leads_halted plan f s turn f' passed.left s' (halted_of turn (sym e ∙ passed.said)) es
-
-    pub solve_reached : (norm : Float) → answer ≡ Pass.Reached norm → s' ≡ solved_stand s s.rs (s.norms + 1) 1
-        → Leads (solve_step plan words f s) (record { stand = s'; gives = Gives.Norm norm }) f'
-    unfolding solve_step
-    solve_reached norm e es = leads_reached plan f s turn f' passed.left s' (after vectors turn).x (after vectors turn).r norm (reached_of vectors turn norm (sym e ∙ passed.said)) es
-
-    pub solve_moved : (rs norm : Float) (end : ℕ) → answer ≡ Pass.Moved rs norm → end ≡ pick (leb plan.limit s.norms) 3 0 → s' ≡ solved_stand s rs (s.norms + 1) end
-        → Leads (solve_step plan words f s) (record { stand = s'; gives = Gives.Norm norm }) f'
-    unfolding solve_step
-    solve_moved rs norm end e ee es =
-        let t = moved_of vectors turn rs norm (sym e ∙ passed.said) in
-        leads_moved plan f s turn f' passed.left s' (after vectors turn) rs norm end t.0 t.1 after_is_long.p_long ee es
+  pub solve_leads : (f' : List Float) (answer : Pass) (s' : Stand) (g : Gives) → Passed f f' plan.n (vectors_at plan.n plan.t) turn answer → s' ≡ turned_stand plan s answer → g ≡ given_by answer
+      → Leads (solve_step plan words f s) (record { stand = s'; gives = g }) f'
+  unfolding solve_step
+  solve_leads f' answer s' g passed es eg = record {
+    stand = es ∙ ap (turned_stand plan s) passed.said ∙ sym (solved_turned plan s f turn);
+    gives = eg ∙ ap given_by passed.said ∙ sym (solved_given plan s f turn);
+    front = passed.left ∙ solved_front plan f s vectors turn after_is_long;
+  }
 
 -- ---- the field and the gradients in a front
 
@@ -157,16 +130,10 @@ unfolding part
 whole l n h = part_all l n h
 
 module _ (plan : Plan) (words : List ℕ) (f : List Float) (h : Searchable plan words f) where
-  pub front_fielded : (l : List Float) (u : ℕ) → u ≡ at_x plan.n plan.t → at_gradients plan.n plan.t ≤ length l → Fielded l words (first_at plan.n plan.t) u
-  front_fielded l u eu e = record { meshed = record { linked = h.ready.linked; vertices_fit = omega (arith, e) }; field_fits = omega (arith, e) }
-
   -- what stands from the gradients on
   pub front_gradients : (at : ℕ) → at ≡ at_gradients plan.n plan.t → take (length f - at) (drop at f) ≡ part f (at_gradients plan.n plan.t) (2 * plan.t)
   unfolding part
   front_gradients at e = let k : length f - at ≡ 2 * plan.t = omega (arith, h.long) in rw (k, e)
-
-  pub long_gradients : length (part f (at_gradients plan.n plan.t) (2 * plan.t)) ≡ 2 * plan.t
-  long_gradients = length_part f (at_gradients plan.n plan.t) (2 * plan.t) (omega (arith, h.long))
 
   -- the front with the gradients of its field behind what stands before them
   pub gradients_put_lem : {b g : List Float} {at u : ℕ} {d : Field} → at ≡ at_gradients plan.n plan.t → u ≡ at_x plan.n plan.t → b ≡ take at f → FieldStands b words (first_at plan.n plan.t) u d

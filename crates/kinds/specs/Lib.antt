@@ -1,2 +1,4 @@
 pub mod Found
 pub mod FoundLaws
+pub mod Solving
+pub mod SolvingLaws

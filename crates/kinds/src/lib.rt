@@ -1,30 +1,30 @@
 // The kinds of pass on the front of the floats: solving, the start, and a crossing.
+// Each takes the front, the plan with its words and the stand, and asks one record of facts of them. Each pass makes another stand; that its counts stay in range is one law (`once_standing` of work), which a clause uses and a field would hide.
+// `Steppable` and the like say `Ready` again: definitions and laws speak of plan and words without a `Laid`. The bound of `place < 1000000` is of place and passes asked together, so it is no part of `Standing`.
+// Ends are numbers: an enum of the ends would need a second `Stand` for after gate's test, and the definitions speak of document 01's numbers; no path is 0 points, as in the record. Parts are cut out of the front by the plan's places, since it is lent whole.
 #![tactic(auto)]
 
-ghost use Rattle.std.specs.Prelude.{◌≡◌, [], ◌*◌, ◌≤◌, ◌<◌, length, replicate, leb, eqb};
-ghost use Rattle.binary64.specs.Constants.{plus_zero};
-ghost use Rattle.binary64.specs.Number.{pick};
-ghost use Rattle.sparse.specs.Stored.{matrix};
-ghost use Rattle.mesh.specs.Element.{flat};
+ghost use Rattle.std.specs.Prelude.{◌≡◌, [], ◌*◌, ◌≤◌, ◌<◌, length, take, drop, eqb};
 ghost use Rattle.mesh.specs.Mesh.{triangle_count};
-ghost use Rattle.conjugate.specs.Passes.{AsLong, Passes, solve};
-ghost use Rattle.conjugate.specs.Placed.{Passed};
+ghost use Rattle.conjugate.specs.Placed.{Passed, row_of};
 ghost use Rattle.work.specs.Memory as Memory;
 ghost use Rattle.work.specs.Ready.{Ready, Steps};
 ghost use Rattle.pde.specs.Crossing.{crossing_along};
 ghost use Rattle.model.specs.Space.{factor};
 ghost use Rattle.model.specs.Run.{rule};
-ghost use Rattle.work.specs.Layout.{at_x, matrix_at, vectors_at};
+ghost use Rattle.work.specs.Layout.{at_x, vectors_at};
 ghost use Rattle.work.specs.Kinds.{Steppable, Searchable, Crossable, SetsOut, Leads, lost_by, gradients_put};
 ghost use Rattle.work.specs.StandingLaws.{turn_of};
 ghost use Rattle.kinds.specs.Found.{found_on, entry_at};
+ghost use Rattle.kinds.specs.Solving.{turn_behind, turned_stand, given_by};
 
 use conjugate::Pass;
 use pde::{Crossing, Entry, Field, Rule, Walk};
 use plane::Point;
-use work::{Gives, Plan, Run, Stand, Step, layout, place};
+pub use work::place::limit_end;
+use work::{Gives, Laid, Plan, Run, Stand, Step, place};
 
-// The stand after a pass of solving.
+// The stand after a pass of solving: an update of what such a pass moves, as `walked_stand` is of the path's. They have the place alone in common.
 pub fn solved_stand(s: Stand, rs: f64, norms: usize, end: usize) -> Stand
     requires { s.place < 1000000 }
     ensures { result ≡ Memory.solved_stand s rs norms end }
@@ -38,82 +38,81 @@ pub fn solved_stand(s: Stand, rs: f64, norms: usize, end: usize) -> Stand
     }
 }
 
-// The end of a pass with no other end: 3 where the limit is used up.
-pub fn limit_end(limit: usize, norms: usize) -> usize
-    ensures { result ≡ pick (leb limit norms) 3 0 }
+// The stand after a pass of solving, by its answer.
+pub fn turned(plan: Plan, stand: Stand, turn: Pass) -> Stand
+    requires { (stand.place < 1000000) × (stand.norms ≤ 100001) }
+    ensures { result ≡ turned_stand plan stand turn }
 {
-    if limit <= norms { 3 } else { 0 }
+    match turn {
+        Pass::Halted => solved_stand(stand, stand.rs, stand.norms, 2),
+        Pass::Reached(_) => solved_stand(stand, stand.rs, stand.norms + 1, 1),
+        Pass::Moved(rs, _) => {
+            let end = limit_end(plan.limit, stand.norms);
+            solved_stand(stand, rs, stand.norms + 1, end)
+        }
+    }
 }
 
-// One pass on vectors of their own, by the matrix that stands in `before`. Apart from the split of the front, since the check does not follow vectors that are split four times beside a struct of another buffer.
-fn pass_on(
-    before: &[f64],
-    words: &[u32],
-    plan: Plan,
-    x: &mut [f64],
-    r: &mut [f64],
-    p: &mut [f64],
-    product: &mut [f64],
-    rs: f64,
-) -> Pass
-    requires { Ready plan words.now × (at_x plan.n plan.t ≤ length before.now) × AsLong plan.n x.old r.old p.old × (length product.old ≡ plan.n) }
-    ensures passed { Passes (matrix words.now before.now (matrix_at plan.n plan.t)) flat plan.tolerance (solve x.old r.old p.old rs) x.new r.new p.new result }
-    ensures cleared { product.new ≡ replicate plan.n plus_zero }
+// What a pass of solving gives, by its answer.
+fn given(turn: Pass) -> Gives
+    ensures { result ≡ given_by turn }
 {
-    let a = layout::matrix(before, words, plan.n, plan.t);
-    conjugate::one_pass(&a, x, r, p, product, Run::TINY, plan.tolerance, rs)
+    match turn {
+        Pass::Halted => Gives::Nothing,
+        Pass::Reached(norm) | Pass::Moved(_, norm) => Gives::Norm(norm),
+    }
+}
+
+// One pass on the vectors at the front of `behind`, by the matrix that stands before them. Apart from the split of the front, since beside a struct made of a part of it the check does not follow what is left of the front.
+fn pass_behind(before: &[f64], behind: &mut [f64], laid: &Laid, rs: f64) -> Pass
+    requires { (at_x laid.now.plan.n laid.now.plan.t ≤ length before.now) × (4 * laid.now.plan.n ≤ length behind.old) }
+    ensures passed { Passed (take (4 * laid.now.plan.n) behind.old) (take (4 * laid.now.plan.n) behind.new) laid.now.plan.n (row_of laid.now.plan.n)
+        (turn_behind laid.now.plan laid.now.words.now before.now (take (4 * laid.now.plan.n) behind.old) rs) result }
+    ensures kept { drop (4 * laid.now.plan.n) behind.new ≡ drop (4 * laid.now.plan.n) behind.old }
+{
+    let n = laid.plan.n;
+    let a = laid.matrix(before);
+    conjugate::pass_in_row(
+        &a,
+        &mut behind[..4 * n],
+        n,
+        Run::TINY,
+        laid.plan.tolerance,
+        rs,
+    )
 }
 
 // One pass on the vectors of the front.
-fn solve_once(front: &mut [f64], words: &[u32], plan: Plan, stand: Stand) -> Pass
-    requires { Steppable plan words.now front.old stand }
-    ensures { Passed front.old front.new plan.n (vectors_at plan.n plan.t) (turn_of plan words.now front.old stand) result }
+fn solve_once(front: &mut [f64], laid: &Laid, stand: Stand) -> Pass
+    requires { Steppable laid.now.plan laid.now.words.now front.old stand }
+    ensures { Passed front.old front.new laid.now.plan.n (vectors_at laid.now.plan.n laid.now.plan.t) (turn_of laid.now.plan laid.now.words.now front.old stand) result }
 {
-    let n = plan.n;
-    let (before, vectors) = front.split_at_mut(layout::at_x(n, plan.t));
-    let (x, vectors) = vectors.split_at_mut(n);
-    let (r, vectors) = vectors.split_at_mut(n);
-    let (p, vectors) = vectors.split_at_mut(n);
-    let (product, _) = vectors.split_at_mut(n);
-    pass_on(before, words, plan, x, r, p, product, stand.rs)
+    let (before, behind) = front.split_at_mut(laid.plan.at_x());
+    pass_behind(before, behind, laid, stand.rs)
 }
 
 // A pass of solving.
-fn solve_step(front: &mut [f64], words: &[u32], plan: Plan, stand: Stand) -> Step
-    requires { Steppable plan words.now front.old stand }
-    ensures { Leads (Memory.solve_step plan words.now front.old stand) result front.new }
+fn solve_step(front: &mut [f64], laid: &Laid, stand: Stand) -> Step
+    requires { Steppable laid.now.plan laid.now.words.now front.old stand }
+    ensures { Leads (Memory.solve_step laid.now.plan laid.now.words.now front.old stand) result front.new }
 {
-    match solve_once(front, words, plan, stand) {
-        Pass::Halted => Step {
-            stand: solved_stand(stand, stand.rs, stand.norms, 2),
-            gives: Gives::Nothing,
-        },
-        Pass::Reached(norm) => Step {
-            stand: solved_stand(stand, stand.rs, stand.norms + 1, 1),
-            gives: Gives::Norm(norm),
-        },
-        Pass::Moved(rs, norm) => Step {
-            stand: solved_stand(
-                stand,
-                rs,
-                stand.norms + 1,
-                limit_end(plan.limit, stand.norms),
-            ),
-            gives: Gives::Norm(norm),
-        },
+    let turn = solve_once(front, laid, stand);
+    Step {
+        stand: turned(laid.plan, stand, turn),
+        gives: given(turn),
     }
 }
 
 // ---- the start pass
 
 // The gradients on all triangles, in their place.
-fn fill_gradients(front: &mut [f64], words: &[u32], plan: Plan)
-    requires { Searchable plan words.now front.old }
-    ensures { front.new ≡ gradients_put plan words.now front.old }
+fn fill_gradients(front: &mut [f64], laid: &Laid)
+    requires { Searchable laid.now.plan laid.now.words.now front.old }
+    ensures { front.new ≡ gradients_put laid.now.plan laid.now.words.now front.old }
 {
-    let (before, gradients) = front.split_at_mut(layout::at_gradients(plan.n, plan.t));
-    let u = layout::at_x(plan.n, plan.t);
-    let field = Field::of(before, words, plan.n, plan.t, u);
+    let (before, gradients) = front.split_at_mut(laid.plan.at_gradients());
+    let u = laid.plan.at_x();
+    let field = laid.field(before, u);
     gradient::compute_gradient_field(&field.mesh, field.values, Run::TINY, gradients);
 }
 
@@ -150,7 +149,7 @@ fn walked_stand(s: Stand, walk: Walk, crossings: usize) -> Stand
     }
 }
 
-// The first point at the start that is found, or an end where none is; what is left of the front is not told.
+// The first point at the start that is found, or an end where none is; what is left of the front is not told. The walk from an entry is made field by field, as `set_out_step` has it, which the contract names.
 pub fn set_out(stand: Stand, given: Option<Point>, found: Option<Entry>) -> Step
     requires { stand.place < 1000000 }
     ensures { SetsOut (Memory.set_out_step stand [] (lost_by given) found) result }
@@ -175,22 +174,22 @@ pub fn set_out(stand: Stand, given: Option<Point>, found: Option<Entry>) -> Step
 }
 
 // The first point from where the field ended, or an end where no start is found.
-pub fn start_step(front: &[f64], words: &[u32], plan: Plan, stand: Stand) -> Step
-    requires { Searchable plan words.now front.now × (stand.place < 1000000) }
-    ensures { SetsOut (Memory.start_by plan words.now front.now stand plan.start) result }
+pub fn start_step(front: &[f64], laid: &Laid, stand: Stand) -> Step
+    requires { Searchable laid.now.plan laid.now.words.now front.now × (stand.place < 1000000) }
+    ensures { SetsOut (Memory.start_by laid.now.plan laid.now.words.now front.now stand laid.now.plan.start) result }
 {
-    let u = layout::at_x(plan.n, plan.t);
-    let field = Field::of(front, words, plan.n, plan.t, u);
-    set_out(stand, plan.start, find_start(&field, plan.start))
+    let u = laid.plan.at_x();
+    let field = laid.field(front, u);
+    set_out(stand, laid.plan.start, find_start(&field, laid.plan.start))
 }
 
 // The pass after solving: the gradients, and the first point or an end.
-fn begin_step(front: &mut [f64], words: &[u32], plan: Plan, stand: Stand) -> Step
-    requires { Steppable plan words.now front.old stand }
-    ensures { Leads (Memory.begin_step plan words.now front.old stand) result front.new }
+fn begin_step(front: &mut [f64], laid: &Laid, stand: Stand) -> Step
+    requires { Steppable laid.now.plan laid.now.words.now front.old stand }
+    ensures { Leads (Memory.begin_step laid.now.plan laid.now.words.now front.old stand) result front.new }
 {
-    let d = start_step(front, words, plan, stand);
-    fill_gradients(front, words, plan);
+    let d = start_step(front, laid, stand);
+    fill_gradients(front, laid);
     d
 }
 
@@ -203,7 +202,7 @@ const RULE: Rule = Rule {
     spacing: Run::SPACING,
 };
 
-// Where the path stands in its triangle.
+// Where the path stands in its triangle: a conversion with a definition of its own (`entry_at`), which its contract names. Field by field, here and in `set_out`: `Walk` keeps triangle and edge apart (docs/DECISIONS.md, Speed).
 pub fn entry_of(walk: Walk) -> Entry
     ensures { result ≡ entry_at walk }
 {
@@ -214,24 +213,24 @@ pub fn entry_of(walk: Walk) -> Entry
     }
 }
 
-// What crossing a triangle from an entry comes to, by the triangle's gradient.
-pub fn crossing_by(field: &Field, plan: Plan, g: Point, entry: Entry) -> Crossing
+// What crossing a triangle from an entry comes to, by the triangle's gradient. Of the plan it is handed the step alone: a plan would be copied for each crossing.
+pub fn crossing_by(field: &Field, step: f64, g: Point, entry: Entry) -> Crossing
     requires { entry.triangle < triangle_count field.now.mesh.triangles.now }
-    ensures { result ≡ crossing_along rule field.now.mesh.vertices.now field.now.mesh.triangles.now field.now.mesh.neighbours.now (triangle_count field.now.mesh.triangles.now) field.now.values.now g plan.step entry.point entry.triangle entry.edge }
+    ensures { result ≡ crossing_along rule field.now.mesh.vertices.now field.now.mesh.triangles.now field.now.mesh.neighbours.now (triangle_count field.now.mesh.triangles.now) field.now.values.now g step entry.point entry.triangle entry.edge }
 {
-    field.crossing(RULE, plan.step, g, entry)
+    field.crossing(RULE, step, g, entry)
 }
 
 // What crossing a triangle from an entry comes to.
-pub fn crossing_of(front: &[f64], words: &[u32], plan: Plan, entry: Entry) -> Crossing
-    requires { Searchable plan words.now front.now × (entry.triangle < plan.t) }
-    ensures { result ≡ Memory.crossing_from plan words.now front.now entry.point entry.triangle entry.edge }
+pub fn crossing_of(front: &[f64], laid: &Laid, entry: Entry) -> Crossing
+    requires { Searchable laid.now.plan laid.now.words.now front.now × (entry.triangle < laid.now.plan.t) }
+    ensures { result ≡ Memory.crossing_from laid.now.plan laid.now.words.now front.now entry.point entry.triangle entry.edge }
 {
-    let u = layout::at_x(plan.n, plan.t);
-    let field = Field::of(front, words, plan.n, plan.t, u);
-    let at = layout::at_gradients(plan.n, plan.t);
+    let u = laid.plan.at_x();
+    let field = laid.field(front, u);
+    let at = laid.plan.at_gradients();
     let g = pde::cross::gradient_at(&front[at..], entry.triangle);
-    crossing_by(&field, plan, g, entry)
+    crossing_by(&field, laid.plan.step, g, entry)
 }
 
 // Which crossing is the last of all.
@@ -257,36 +256,35 @@ pub fn crossed(plan: Plan, stand: Stand, c: Crossing) -> Stand
 }
 
 // A crossing of the path's triangle.
-fn cross_step(front: &[f64], words: &[u32], plan: Plan, stand: Stand) -> Step
-    requires { Crossable plan words.now front.now stand }
-    ensures { Leads (Memory.cross_step plan words.now front.now stand) result front.now }
+fn cross_step(front: &[f64], laid: &Laid, stand: Stand) -> Step
+    requires { Crossable laid.now.plan laid.now.words.now front.now stand }
+    ensures { Leads (Memory.cross_step laid.now.plan laid.now.words.now front.now stand) result front.now }
 {
-    let c = crossing_of(front, words, plan, entry_of(stand.walk));
+    let c = crossing_of(front, laid, entry_of(stand.walk));
     Step {
-        stand: crossed(plan, stand, c),
+        stand: crossed(laid.plan, stand, c),
         gives: Gives::Crossed(c),
     }
 }
 
 // ---- any pass
 
-// The pass that is next, from the ends alone, on the front of the floats; what it gives is not written yet.
-pub fn step(front: &mut [f64], words: &[u32], plan: Plan, stand: Stand) -> Step
-    requires { Steppable plan words.now front.old stand }
-    ensures { Steps plan words.now front.old stand result front.new }
+// The pass that is next, from the ends alone, on the front of the floats; what it gives is not written yet. The kinds are no chain of calls: which is next depends on the stand that the last one left.
+pub fn step(front: &mut [f64], laid: &Laid, stand: Stand) -> Step
+    requires { Steppable laid.now.plan laid.now.words.now front.old stand }
+    ensures { Steps laid.now.plan laid.now.words.now front.old stand result front.new }
 {
-    let walk = stand.walk;
-    if walk.end != 0 {
+    if stand.walk.end != 0 {
         return Step {
             stand,
             gives: Gives::Nothing,
         };
     }
     if stand.end == 0 {
-        return solve_step(front, words, plan, stand);
+        return solve_step(front, laid, stand);
     }
-    if walk.points == 0 {
-        return begin_step(front, words, plan, stand);
+    if stand.walk.points == 0 {
+        return begin_step(front, laid, stand);
     }
-    cross_step(front, words, plan, stand)
+    cross_step(front, laid, stand)
 }

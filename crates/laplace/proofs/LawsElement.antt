@@ -1,5 +1,5 @@
--- The values of a corner, and a triangle's pushes by its stiffness. Assumes nothing.
-use Prim.Native.Nat.{ℕ, zero, suc, ◌+◌, ◌*◌, ◌<◌}
+-- Triangles of a mesh, and a triangle's pushes by its stiffness. Assumes nothing.
+use Prim.Native.Nat.{ℕ, ◌+◌, ◌*◌, ◌<◌}
 use native.Mathlib.Omega.{arith}
 use mathlib.Core.Path.{◌≡◌, refl}
 use mathlib.Core.Bool.{Bool, true, false}
@@ -13,16 +13,8 @@ use Rattle.laplace.specs.declared.element.Triangle.{Triangle}
 use Rattle.laplace.specs.Assembly.{nine, triangle_pushes}
 use Rattle.laplace.specs.Matrix.{AllBelow}
 use Rattle.laplace.specs.Element.{stiff_in, triangle_of, Within}
-use Rattle.laplace.specs.Row.{side_of}
 use Rattle.laplace.specs.Right.{stiff_pushes}
 use Rattle.laplace.proofs.LawsCorners.{below_at}
-
--- the last corner
-pub last_side : (s : Stiff) (e : ℕ) → (e ≡ 0 → ⊥) → (e ≡ 1 → ⊥) → side_of s 2 ≡ side_of s e
-unfolding side_of
-last_side s zero h k = absurd (h refl)
-last_side s (suc zero) h k = absurd (k refl)
-last_side s (suc (suc e)) h k = refl
 
 -- a triangle of the mesh
 pub triangle-within : (n : ℕ) (ts : List ℕ) (q : ℕ) → AllBelow n ts → 3 * q + 2 < length ts → Within n (triangle_of ts q)

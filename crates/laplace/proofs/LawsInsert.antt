@@ -221,10 +221,10 @@ module _ (v : List Float) (c : List ℕ) (k j : ℕ) (x : Float) (hv : k ≤ len
         omega (arith, length_columns es)
 
     -- so there is room to move up by one
-    pub fresh_room : p ≤ k → Room v c k (insert j x (entries_in v c k)) → (k < length v) × (k < length c)
+    pub fresh_room : p ≤ k → Room v c (insert j x (entries_in v c k)) → (k < length v) × (k < length c)
     fresh_room h m = omega (arith, fresh-length h, m)
 
-    pub written-fresh : p ≤ k → Room v c k (insert j x (entries_in v c k))
+    pub written-fresh : p ≤ k → Room v c (insert j x (entries_in v c k))
         → Written v c (set (copy_within v p k (p + 1)) p x) (set (copy_within c p k (p + 1)) p j) (k + 1) (insert j x (entries_in v c k))
     written-fresh h m =
         let i = fresh in

@@ -13,7 +13,7 @@ use Rattle.sparse.specs.Sparse.{Entry, entries}
 use Rattle.laplace.specs.declared.element.Elements.{Elements}
 use Rattle.laplace.specs.Assembly.{rows}
 use Rattle.laplace.specs.Matrix.{row_rising, row_below, pushes_below, count, count-append, few_entries}
-use Rattle.laplace.specs.Elements.{IsMesh, pushes_of}
+use Rattle.laplace.specs.Elements.{AreElements, pushes_of}
 use Rattle.laplace.specs.Placed.{values_in, columns_in, values_of, columns_of, starts_from}
 use Rattle.laplace.specs.Row.{Written, Tidy, Building}
 use Rattle.laplace.specs.Rows.{row_of, rows_of, room_of, Appends, Ready, RowPut, RowsPut}
@@ -28,7 +28,7 @@ module _ {A : Type 0} where
 
 -- ---- one row
 
-module _ (m : Elements) (heads links : List ℕ) (v : List Float) (c starts cols : List ℕ) (values : List Float) (y : Ready m heads links v c starts cols values) where
+module _ (m : Elements) (v : List Float) (c starts cols : List ℕ) (values : List Float) (y : Ready m v c starts cols values) where
   pub row_starts : Building m v c 0
   unfolding entries
   row_starts =
@@ -51,11 +51,9 @@ module _ (m : Elements) (heads links : List ℕ) (v : List Float) (c starts cols
     built : Building m v' c' k
     built = building_on m v c 0 row_starts v' c' k (row_of m r) a tidy_row
 
-    pub row_appends : Appends (length v') (length c') (length values) (length cols) k before
+    pub row_appends : Appends (length values) (length cols) k before
     row_appends =
         record {
-          row_within = omega (arith, built.within, built.values_long);
-          cols_within = omega (arith, built.within, built.cols_long);
           room = omega (arith, y.values_long, a.count);
           cols_room = omega (arith, y.cols_long, a.count);
         }
@@ -82,7 +80,7 @@ module _ (m : Elements) (heads links : List ℕ) (v : List Float) (c starts cols
 
 -- ---- all rows
 
-module _ (m : Elements) (mesh : IsMesh m) where
+module _ (m : Elements) (mesh : AreElements m) where
   -- the first i rows have few entries
   pub rows_few : (i : ℕ) → i ≤ length m.tags.now → count (rows_of m i) ≤ room_of m
   rows_few i h = omega (arith, few_entries m.tags.now m.flat m.vertices.now m.triangles.now i)
@@ -127,12 +125,11 @@ module _ (m : Elements) (mesh : IsMesh m) where
         }
 
 -- the matrix has room still
-pub ready_on : (m : Elements) (heads links : List ℕ) (v : List Float) (c starts cols : List ℕ) (values : List Float) → Ready m heads links v c starts cols values
-    → (s₁ c₁ : List ℕ) (v₁ : List Float) (k : ℕ) (rs : List (List Entry)) → RowsPut starts cols values s₁ c₁ v₁ k rs → (v' : List Float) (c' : List ℕ) → v' ≡ v → c' ≡ c → Ready m heads links v' c' s₁ c₁ v₁
-ready_on m heads links v c starts cols values y s₁ c₁ v₁ k rs p v' c' ev ec =
+pub ready_on : (m : Elements) (v : List Float) (c starts cols : List ℕ) (values : List Float) → Ready m v c starts cols values
+    → (s₁ c₁ : List ℕ) (v₁ : List Float) (k : ℕ) (rs : List (List Entry)) → RowsPut starts cols values s₁ c₁ v₁ k rs → (v' : List Float) (c' : List ℕ) → v' ≡ v → c' ≡ c → Ready m v' c' s₁ c₁ v₁
+ready_on m v c starts cols values y s₁ c₁ v₁ k rs p v' c' ev ec =
     record {
       mesh = y.mesh;
-      linked = y.linked;
       row_clear = ev ∙ y.row_clear;
       columns_clear = ec ∙ y.columns_clear;
       starts_long = ap length p.start ∙ length-splice starts 0 (starts_from 0 rs) ∙ y.starts_long;

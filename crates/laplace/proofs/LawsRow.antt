@@ -152,11 +152,11 @@ module _ (n : ℕ) (tags : List ℕ) where
 
 module _ (m : Elements) (v : List Float) (c : List ℕ) (k : ℕ) (b : Building m v c k) where
   -- there is room for an entry more
-  pub room : (j : ℕ) (x : Float) → j < length m.tags.now → Room v c k (insert j x (entries_in v c k))
+  pub room : (j : ℕ) (x : Float) → j < length m.tags.now → Room v c (insert j x (entries_in v c k))
   room j x h =
       let n = length m.tags.now in
       let l : length (insert j x (entries_in v c k)) ≤ n = tidy_few n (insert j x (entries_in v c k)) (tidy_insert n j x (entries_in v c k) h b.tidy) in
-      record { values_now = omega (arith, b); cols_now = omega (arith, b); values_then = omega (arith, b); cols_then = omega (arith, b) }
+      record { values_fit = omega (arith, b); cols_fit = omega (arith, b) }
 
   pub written-placed : (v' : List Float) (c' : List ℕ) (k' j : ℕ) (x : Float) → get_or m.tags.now j 0 ≡ 0
       → Written v c v' c' k' (insert j x (entries_in v c k)) → Written v c v' c' k' (placed m.tags.now j x (entries_in v c k))

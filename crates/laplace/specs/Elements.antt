@@ -5,7 +5,7 @@ use Rattle.laplace.specs.Assembly.{Push, pushes}
 use Rattle.laplace.specs.Matrix.{AllBelow}
 
 -- two coordinates for each tag, three corners for each triangle, and each corner is a vertex
-pub record IsMesh (e : Elements) : Type 0 where
+pub record AreElements (e : Elements) : Type 0 where
   pub few_vertices : length e.tags.now ≤ 4096
   pub few_corners : length e.triangles.now ≤ 24576
   pub vertices : length e.vertices.now ≡ 2 * length e.tags.now

@@ -1,8 +1,7 @@
 -- What is true of the assembled matrix for every mesh: it equals its transpose bit for bit, a held row and a held column have a lone 1, columns rise and stay below n, and there are few entries.
 -- Assumes nothing.
-use Rattle.std.specs.Prelude.{ℕ, zero, suc, ◌+◌, ◌*◌, ◌≤◌, ◌<◌, ◌≡◌, refl, Bool, true, false, ◌&&◌, List, [], ◌∷◌, ◌++◌, eqb, ltb, length, Float}
+use Rattle.std.specs.Prelude.{ℕ, zero, suc, ◌+◌, ◌*◌, ◌≤◌, ◌<◌, ◌≡◌, refl, Bool, true, false, ◌&&◌, List, [], ◌∷◌, ◌++◌, eqb, ltb, length, Float, Option, Some, None}
 use Rattle.std.proofs.Common.{arith, le_refl, sym, ap, ◌∙◌, length-append, ltb-true, ltb-false, eqb-true, eq-eqb, ne_eqb}
-use Rattle.std.proofs.Math.Option.{Option, none, some}
 use Rattle.std.proofs.Math.Arith.{lt_of_le-ne}
 use Rattle.std.proofs.lemmas.Bool.{eqb-false}
 use Rattle.std.specs.Float.Ieee.{lt}
@@ -17,13 +16,13 @@ use Rattle.laplace.specs.Assembly.{Push, nine, stiff, slope, area2, triangle_pus
 
 -- the value of an entry, where the row has one at that column
 unfoldable pub value_at : List Entry → ℕ → Option Float
-value_at [] c = none
-value_at (e ∷ es) c = pick (eqb e.col c) (some e.value) (value_at es c)
+value_at [] c = None
+value_at (e ∷ es) c = pick (eqb e.col c) (Some e.value) (value_at es c)
 
 -- a sum with one more value on its right
 abbrev more : Option Float → Float → Option Float
-more none v = some v
-more (some s) v = some (s ⊕ v)
+more None v = Some v
+more (Some s) v = Some (s ⊕ v)
 
 -- columns rise from lo on
 unfoldable pub Rising : ℕ → List Entry → Type 0
@@ -75,7 +74,7 @@ insert-length j v (e ∷ es) = go (ltb e.col j) (eqb e.col j) (insert-length j v
     go false false f = omega arith
 
 -- a column before the first has no entry
-none_before : (lo c : ℕ) (es : List Entry) → c < lo → Rising lo es → value_at es c ≡ none
+none_before : (lo c : ℕ) (es : List Entry) → c < lo → Rising lo es → value_at es c ≡ None
 unfolding value_at Rising
 none_before lo c [] h r = refl
 none_before lo c (e ∷ es) h r = rw (ne_eqb e.col c (λ (k : e.col ≡ c). omega arith)) (none_before (suc e.col) c es (omega arith) r.1)
@@ -91,27 +90,27 @@ value_at-insert lo j c v (e ∷ es) r = go (ltb e.col j) (eqb e.col j) refl refl
     after x y h = omega (arith, eqb-true e.col c x, eqb-true j c y)
 
     on : (x y : Bool) → eqb e.col c ≡ x → eqb j c ≡ y → e.col < j
-        → pick x (some e.value) (pick y (more (value_at es c) v) (value_at es c)) ≡ pick y (more (pick x (some e.value) (value_at es c)) v) (pick x (some e.value) (value_at es c))
+        → pick x (Some e.value) (pick y (more (value_at es c) v) (value_at es c)) ≡ pick y (more (pick x (Some e.value) (value_at es c)) v) (pick x (Some e.value) (value_at es c))
     on true true p q h = absurd (after p q h)
     on true false p q h = refl
     on false true p q h = refl
     on false false p q h = refl
 
     here : (x y : Bool) → eqb e.col c ≡ x → eqb j c ≡ y → e.col ≡ j
-        → pick y (some (e.value ⊕ v)) (value_at es c) ≡ pick y (more (pick x (some e.value) (value_at es c)) v) (pick x (some e.value) (value_at es c))
+        → pick y (Some (e.value ⊕ v)) (value_at es c) ≡ pick y (more (pick x (Some e.value) (value_at es c)) v) (pick x (Some e.value) (value_at es c))
     here true true p q h = refl
     here true false p q h = absurd (eqb-false j c q (omega (arith, eqb-true e.col c p)))
     here false true p q h = absurd (eqb-false e.col c p (omega (arith, eqb-true j c q)))
     here false false p q h = refl
 
     before : (y : Bool) → eqb j c ≡ y → j < e.col
-        → pick y (some v) (pick (eqb e.col c) (some e.value) (value_at es c)) ≡ pick y (more (pick (eqb e.col c) (some e.value) (value_at es c)) v) (pick (eqb e.col c) (some e.value) (value_at es c))
+        → pick y (Some v) (pick (eqb e.col c) (Some e.value) (value_at es c)) ≡ pick y (more (pick (eqb e.col c) (Some e.value) (value_at es c)) v) (pick (eqb e.col c) (Some e.value) (value_at es c))
     before true q h = rw (none_before (suc j) c (e ∷ es) (omega (arith, eqb-true j c q)) (h, r.1))
     before false q h = refl
 
     go : (b d : Bool) → ltb e.col j ≡ b → eqb e.col j ≡ d → value_at (insert j v es) c ≡ pick (eqb j c) (more (value_at es c) v) (value_at es c)
         → value_at (pick b (e ∷ insert j v es) (pick d (entry j (e.value ⊕ v) ∷ es) (entry j v ∷ e ∷ es))) c
-        ≡ pick (eqb j c) (more (pick (eqb e.col c) (some e.value) (value_at es c)) v) (pick (eqb e.col c) (some e.value) (value_at es c))
+        ≡ pick (eqb j c) (more (pick (eqb e.col c) (Some e.value) (value_at es c)) v) (pick (eqb e.col c) (Some e.value) (value_at es c))
     go true d p q ih = rw ih (on (eqb e.col c) (eqb j c) refl refl (ltb-true e.col j p))
     go false true p q ih = here (eqb e.col c) (eqb j c) refl refl (eqb-true e.col j q)
     go false false p q ih = before (eqb j c) refl (lt_of_le-ne (ltb-false e.col j p) (λ (k : j ≡ e.col). eqb-false e.col j q (sym k)))
@@ -280,21 +279,21 @@ unfolding row
 held-row tags ps i h = rw h
 
 -- A held column has its lone 1 and no other entry.
-pub held_column_lem : (tags : List ℕ) (ps : List Push) (i c : ℕ) → free tags c ≡ false → value_at (row tags ps i) c ≡ pick (eqb i c) (some one) none
+pub held_column_lem : (tags : List ℕ) (ps : List Push) (i c : ℕ) → free tags c ≡ false → value_at (row tags ps i) c ≡ pick (eqb i c) (Some one) None
 unfolding row value_at Rising
 held_column_lem tags ps i c h = go (free tags i) (eqb i c) refl refl
   where
-    go : (f x : Bool) → free tags i ≡ f → eqb i c ≡ x → value_at (pick f (inserted tags i ps []) (entry i one ∷ [])) c ≡ pick x (some one) none
+    go : (f x : Bool) → free tags i ≡ f → eqb i c ≡ x → value_at (pick f (inserted tags i ps []) (entry i one ∷ [])) c ≡ pick x (Some one) None
     go false x p q = rw q
     go true true p q = absurd (not_both tags i c q p h)
     go true false p q = inserted-held tags i c ps [] h tt
 
-free-entry : (tags : List ℕ) (ps : List Push) (a b : ℕ) → free tags a ≡ true → free tags b ≡ true → value_at (row tags ps a) b ≡ summed a b ps none
+free-entry : (tags : List ℕ) (ps : List Push) (a b : ℕ) → free tags a ≡ true → free tags b ≡ true → value_at (row tags ps a) b ≡ summed a b ps None
 unfolding row value_at Rising
 free-entry tags ps a b fa fb = rw fa (inserted-at tags a b ps [] fb tt)
 
 -- off the diagonal a held vertex has nothing, in its row and in its column
-held-entry : (tags : List ℕ) (ps : List Push) (a b : ℕ) → free tags a ≡ false → eqb a b ≡ false → value_at (row tags ps a) b ≡ none
+held-entry : (tags : List ℕ) (ps : List Push) (a b : ℕ) → free tags a ≡ false → eqb a b ≡ false → value_at (row tags ps a) b ≡ None
 unfolding value_at
 held-entry tags ps a b h e = rw (held-row tags ps a h, e)
 
@@ -315,7 +314,7 @@ symmetric tags flat vs ts a b = go (free tags a) (free tags b) (eqb a b) refl re
     go false fb false p q e = held_across tags (pushes flat vs ts) a b p e
     go true false false p q e = sym (held_across tags (pushes flat vs ts) b a q (ne_eqb b a (λ (k : b ≡ a). eqb-false a b e (sym k))))
     go true true false p q e =
-        free-entry tags (pushes flat vs ts) a b p q ∙ pushes_swap flat vs ts a b none (eqb-false a b e) ∙ sym (free-entry tags (pushes flat vs ts) b a q p)
+        free-entry tags (pushes flat vs ts) a b p q ∙ pushes_swap flat vs ts a b None (eqb-false a b e) ∙ sym (free-entry tags (pushes flat vs ts) b a q p)
 
 -- Columns rise in every row.
 pub row_rising : (tags : List ℕ) (ps : List Push) (i : ℕ) → Rising 0 (row tags ps i)

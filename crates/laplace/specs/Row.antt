@@ -12,7 +12,7 @@ use Rattle.laplace.specs.Mesh.{free}
 use Rattle.laplace.specs.Assembly.{insert}
 use Rattle.laplace.specs.Matrix.{Rising, Below}
 use Rattle.laplace.specs.Element.{stiff_in, triangle_of}
-use Rattle.laplace.specs.Elements.{IsMesh}
+use Rattle.laplace.specs.Elements.{AreElements}
 use Rattle.laplace.specs.Corners.{heads_of, links_of}
 use Rattle.laplace.specs.Placed.{values_in, columns_in}
 
@@ -27,12 +27,10 @@ position_of j (c ∷ cs) = pick (ltb c j) (suc (position_of j cs)) 0
 abbrev pub entries_in : List Float → List ℕ → ℕ → List Entry
 entries_in values cols k = entries (take k cols) (take k values)
 
--- there is room for k entries, and for the entries es
-pub record Room (values : List Float) (cols : List ℕ) (k : ℕ) (es : List Entry) : Type 0 where
-  pub values_now : k ≤ length values
-  pub cols_now : k ≤ length cols
-  pub values_then : length es ≤ length values
-  pub cols_then : length es ≤ length cols
+-- there is room for the entries es
+pub record Room (values : List Float) (cols : List ℕ) (es : List Entry) : Type 0 where
+  pub values_fit : length es ≤ length values
+  pub cols_fit : length es ≤ length cols
 
 -- the k entries es were written to the front, and nothing else
 pub record Written (v : List Float) (c : List ℕ) (v' : List Float) (c' : List ℕ) (k : ℕ) (es : List Entry) : Type 0 where
@@ -60,7 +58,7 @@ pub record Tidy (n : ℕ) (es : List Entry) : Type 0 where
 
 -- k tidy entries stand in a row with a place for each vertex of the mesh
 pub record Building (e : Elements) (values : List Float) (cols : List ℕ) (k : ℕ) : Type 0 where
-  pub mesh : IsMesh e
+  pub mesh : AreElements e
   pub values_long : length values ≡ length e.tags.now
   pub cols_long : length cols ≡ length e.tags.now
   pub within : k ≤ length e.tags.now

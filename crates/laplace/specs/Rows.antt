@@ -6,9 +6,8 @@ use Rattle.sparse.specs.Sparse.{Entry}
 use Rattle.laplace.specs.declared.element.Elements.{Elements}
 use Rattle.laplace.specs.Assembly.{row, rows}
 use Rattle.laplace.specs.Matrix.{count}
-use Rattle.laplace.specs.Elements.{IsMesh, pushes_of}
+use Rattle.laplace.specs.Elements.{AreElements, pushes_of}
 use Rattle.laplace.specs.Placed.{values_in, columns_in, values_of, columns_of, starts_of}
-use Rattle.laplace.specs.Row.{Linked}
 
 -- row r of a mesh's matrix, and its first i rows
 abbrev pub row_of : Elements → ℕ → List Entry
@@ -21,17 +20,14 @@ rows_of e i = rows e.tags.now (pushes_of e) i
 abbrev pub room_of : Elements → ℕ
 room_of e = 3 * length e.triangles.now + length e.tags.now
 
--- k entries of a row go behind `count` others; each number but these two is a length
-pub record Appends (row rowcols values cols k count : ℕ) : Type 0 where
-  pub row_within : k ≤ row
-  pub cols_within : k ≤ rowcols
+-- k entries of a row go behind `count` others; values and cols are lengths
+pub record Appends (values cols k count : ℕ) : Type 0 where
   pub room : count + k ≤ values
   pub cols_room : count + k ≤ cols
 
--- heads and links are there, the row is clear, and the matrix has room
-pub record Ready (e : Elements) (heads links : List ℕ) (row : List Float) (rowcols starts cols : List ℕ) (values : List Float) : Type 0 where
-  pub mesh : IsMesh e
-  pub linked : Linked e heads links
+-- the row is clear, and the matrix has room
+pub record Ready (e : Elements) (row : List Float) (rowcols starts cols : List ℕ) (values : List Float) : Type 0 where
+  pub mesh : AreElements e
   pub row_clear : row ≡ replicate (length e.tags.now) plus_zero
   pub columns_clear : rowcols ≡ replicate (length e.tags.now) 0
   pub starts_long : length starts ≡ suc (length e.tags.now)

@@ -1,4 +1,4 @@
-// The corners of each vertex: a vertex has a head, its first corner, and a corner a link, the next one of its vertex. Each is the corner's number + 1, and 0 for none.
+// The corners of each vertex: a vertex has a head, its first corner, and a corner a link, the next one of its vertex. Each is a word of the lent lists, the corner's number + 1, and 0 for none.
 ghost use Rattle.std.specs.Prelude.{◌≡◌, length};
 ghost use Rattle.laplace.specs.Corners.{heads_of, links_of, Linkable};
 
@@ -9,6 +9,7 @@ pub fn link(triangles: &[u32], heads: &mut [u32], links: &mut [u32])
     ensures next { links.new ≡ links_of triangles.now }
 {
     heads.fill(0);
+    // By number, since heads and links hold the corners' numbers.
     for c in (0..triangles.len()).rev() {
         let v = triangles[c] as usize;
         links[c] = heads[v];

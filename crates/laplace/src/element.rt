@@ -1,4 +1,4 @@
-// The linear triangle (the P1 element): what its corners push on each other.
+// The linear triangle (the P1 element): what its corners push on each other. Vertex numbers are words of the lent lists, and an index is widened by `as usize`.
 ghost use Rattle.std.specs.Prelude.{◌≡◌, ◌+◌, ◌*◌, ◌<◌, length};
 ghost use Rattle.laplace.specs.Mesh.{vertex};
 ghost use Rattle.laplace.specs.Assembly as Assembly;
@@ -7,22 +7,6 @@ ghost use Rattle.laplace.specs.Row as Row;
 
 use mesh::Slope;
 use plane::Point;
-
-// The slope of the corner that faces the edge from p to q.
-pub fn slope_of(p: Point, q: Point) -> Slope
-    ensures { result ≡ Assembly.slope p q }
-{
-    Slope {
-        b: p.y - q.y,
-        c: q.x - p.x,
-    }
-}
-
-pub fn area2(s: Slope, t: Slope) -> f64
-    ensures { result ≡ Assembly.area2 s t }
-{
-    s.b * t.c - t.b * s.c
-}
 
 pub fn stiffness(inv: f64, s: Slope, t: Slope) -> f64
     ensures { result ≡ Assembly.stiffness inv s t }
@@ -45,10 +29,10 @@ pub struct Stiff {
 pub fn stiff_of(flat: f64, a: Point, b: Point, c: Point) -> Option<Stiff>
     ensures { result ≡ Element.stiff_of flat a b c }
 {
-    let si = slope_of(b, c);
-    let sj = slope_of(c, a);
-    let sk = slope_of(a, b);
-    let area = binary64::abs(area2(si, sj));
+    let si = Slope::facing(b, c);
+    let sj = Slope::facing(c, a);
+    let sk = Slope::facing(a, b);
+    let area = binary64::abs(si.area2(sj));
     if area < flat {
         return None;
     }
@@ -72,27 +56,26 @@ pub struct Side {
 }
 
 impl Stiff {
+    #[tactic(auto, unfolding(crate::specs::Row::side_of))]
     pub fn side(self, corner: usize) -> Side
         ensures { result ≡ Row.side_of self corner }
     {
-        if corner == 0 {
-            return Side {
+        match corner {
+            0 => Side {
                 i: self.ii,
                 j: self.ij,
                 k: self.ik,
-            };
-        }
-        if corner == 1 {
-            return Side {
+            },
+            1 => Side {
                 i: self.ij,
                 j: self.jj,
                 k: self.jk,
-            };
-        }
-        Side {
-            i: self.ik,
-            j: self.jk,
-            k: self.kk,
+            },
+            _ => Side {
+                i: self.ik,
+                j: self.jk,
+                k: self.kk,
+            },
         }
     }
 }
@@ -106,6 +89,7 @@ pub struct Triangle {
 }
 
 // A mesh that is assembled: x and y of each vertex, three corners of each triangle, a tag of each vertex, and twice the area in magnitude below which a triangle is skipped.
+// No ghost field says that the lists are those of a mesh: `vertex`, `triangle` and `stiff` ask only of what they read, and what needs the whole asks for `AreElements`.
 #[derive(Clone, Copy)]
 pub struct Elements<'a> {
     pub vertices: &'a [f64],
@@ -119,10 +103,7 @@ impl Elements<'_> {
         requires { 2 * i + 1 < length self.now.vertices.now }
         ensures { result ≡ vertex self.now.vertices.now i }
     {
-        Point {
-            x: self.vertices[2 * i],
-            y: self.vertices[2 * i + 1],
-        }
+        mesh::vertex(self.vertices, i)
     }
 
     // Triangle q.
@@ -139,6 +120,7 @@ impl Elements<'_> {
     }
 
     // What the corners of a triangle push on each other.
+    #[tactic(auto, unfolding(crate::specs::Element::stiff_in))]
     pub fn stiff(&self, q: Triangle) -> Option<Stiff>
         requires { (length self.now.vertices.now ≡ 2 * length self.now.tags.now) × Element.Within (length self.now.tags.now) q }
         ensures { result ≡ Element.stiff_in self.now.flat self.now.vertices.now q }

@@ -1,4 +1,4 @@
-// A mesh: vertices, triangles, neighbours and tags, each a slice.
+// A mesh: vertices, triangles, neighbours and tags, each a slice. Neighbours and tags are words as the lists hold them, and a word that is an index is widened by `as usize`.
 #![tactic(auto)]
 
 ghost use Rattle.std.specs.Prelude.{◌≡◌, ◌+◌, ◌*◌, ◌<◌, ◌≤◌, length};
@@ -17,8 +17,17 @@ pub struct Mesh<'a> {
     pub ghost whole: { IsMesh vertices.now triangles.now neighbours.now tags.now },
 }
 
-// The word of an edge with no neighbour: −1, as the bits of an i32.
+// The word of an edge with no neighbour, a number of the sheet and of the lent words: −1, as the bits of an i32.
 const NONE: u32 = 4294967295;
+
+// The tags, numbers of the sheet and of the lent words. Of a free vertex:
+pub const FREE: u32 = 0;
+
+// Of an outer one, which is held at 1:
+pub const OUTER: u32 = 1;
+
+// Of an inner one, which is held at 0:
+pub const INNER: u32 = 2;
 
 // The gradient of a corner's shape function times twice the area.
 #[derive(Clone, Copy)]
@@ -27,11 +36,55 @@ pub struct Slope {
     pub c: f64,
 }
 
+impl Slope {
+    ghost use Rattle.mesh.specs.Element as Element;
+
+    // The slope of the corner that faces the edge from p to q.
+    pub fn facing(p: Point, q: Point) -> Slope
+        ensures { result ≡ Element.slope p q }
+    {
+        Slope {
+            b: p.y - q.y,
+            c: q.x - p.x,
+        }
+    }
+
+    // Twice the signed area of a triangle, from the slopes of its first two corners.
+    pub fn area2(self, next: Slope) -> f64
+        ensures { result ≡ Element.area2 self next }
+    {
+        self.b * next.c - next.b * self.c
+    }
+}
+
+// Vertex i of a list of vertices.
+#[tactic(auto, unfolding(crate::specs::Mesh::vertex))]
+pub fn vertex(vertices: &[f64], i: usize) -> Point
+    requires { 2 * i + 1 < length vertices.now }
+    ensures { result ≡ Lists.vertex vertices.now i }
+{
+    Point {
+        x: vertices[2 * i],
+        y: vertices[2 * i + 1],
+    }
+}
+
+// The tag of vertex i in a list of tags.
+#[tactic(auto, unfolding(crate::specs::Mesh::tag_of))]
+pub fn tag(tags: &[u32], i: usize) -> u32
+    requires { i < length tags.now }
+    ensures { result ≡ Lists.tag_of tags.now i }
+{
+    tags[i]
+}
+
+// A triangle's number and the number of an edge or corner are two parameters: in a struct they would be put together for each call, and asked for the same bounds. What reads the corners and
+// what reads the neighbours is one expression each.
 impl<'a> Mesh<'a> {
     ghost use Rattle.mesh.specs.Work.{Meshed, first_at};
     ghost use Rattle.mesh.specs.Stands.{Stands};
 
-    // The mesh of n vertices and t triangles whose lists stand first in two buffers.
+    // The mesh of n vertices and t triangles whose lists stand first in two buffers, which are lent whole: here counts become slices.
     pub fn of(floats: &'a [f64], words: &'a [u32], n: usize, t: usize) -> Mesh<'a>
         requires { Meshed floats.now words.now (first_at n t) }
         ensures { Stands floats.now words.now (first_at n t) result }
@@ -56,15 +109,11 @@ impl<'a> Mesh<'a> {
         self.triangles.len() / 3
     }
 
-    #[tactic(auto, unfolding(crate::specs::Mesh::vertex))]
     pub fn vertex(&self, i: usize) -> Point
         requires { i < length self.now.tags.now }
         ensures { result ≡ Lists.vertex self.now.vertices.now i }
     {
-        Point {
-            x: self.vertices[2 * i],
-            y: self.vertices[2 * i + 1],
-        }
+        vertex(self.vertices, i)
     }
 
     // The vertex number at corner e of triangle t.
@@ -105,12 +154,11 @@ impl<'a> Mesh<'a> {
         Some(word as usize)
     }
 
-    #[tactic(auto, unfolding(crate::specs::Mesh::tag_of))]
     pub fn tag(&self, i: usize) -> u32
         requires { i < length self.now.tags.now }
         ensures { result ≡ Lists.tag_of self.now.tags.now i }
     {
-        self.tags[i]
+        tag(self.tags, i)
     }
 }
 

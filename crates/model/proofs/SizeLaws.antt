@@ -1,5 +1,5 @@
 -- Laws of one pass on sizes and ranges: the vectors' and gradients' lengths, the points and the path, and the triangle that a crossing leads into. Assumes nothing.
-use Rattle.std.specs.Prelude.{is_some, ℕ, zero, suc, ◌+◌, ◌-◌, ◌*◌, ◌/◌, ◌≤◌, ◌<◌, ◌≡◌, refl, ◌≢◌, Bool, true, false, ◌&&◌, eqb, leb, length, get_or, replicate, Float, Option, Some, None}
+use Rattle.std.specs.Prelude.{is_some, ℕ, zero, suc, ◌+◌, ◌*◌, ◌/◌, ◌≤◌, ◌<◌, ◌≡◌, refl, Bool, true, false, ◌&&◌, eqb, leb, length, get_or, replicate, Float, Option, Some, None}
 use Rattle.std.proofs.Common.{arith, add-one, sym, ap, ◌∙◌, ⊎_elim, length-append, length-set}
 use Rattle.std.proofs.lemmas.Bool.{false≢true}
 use mathlib.Core.List.{List, [], ◌∷◌, ◌++◌, zip_with}
@@ -17,7 +17,7 @@ use Rattle.sparse.specs.Sparse.{Entry, mat_vec}
 use Rattle.sparse.specs.ProductLaws.{length-mat_vec}
 use Rattle.mesh.specs.Mesh.{neighbour, no_neighbour, free, held}
 use Rattle.mesh.specs.Element.{flat}
-use Rattle.laplace.specs.Assembly.{Push, pushes, row, rows, lowered, coupled, all_coupled, settled, right_side}
+use Rattle.laplace.specs.Assembly.{Push, pushes, rows, lowered, coupled, all_coupled, settled, right_side}
 use Rattle.conjugate.specs.Solver as Solver
 use Rattle.conjugate.specs.Solver.{Solve, Turn, halted, reached, moved, begun}
 use Rattle.gradient.specs.Gradient.{gradients}

@@ -40,12 +40,6 @@ module _ {A : Type 0} where
   unfolding joined
   put_none s at f = sym (splice_nil s at)
 
-  -- items of one element
-  pub put_one : (s l : List A) (at i : ℕ) (f : ℕ → A) (v : A) → v ≡ f i → l ≡ splice s at (joined (λ j. f j ∷ []) i) → set l (at + i) v ≡ splice s at (joined (λ j. f j ∷ []) (i + 1))
-  put_one s l at i f v e p =
-      let long : length (joined (λ j. f j ∷ []) i) ≡ i = length-joined 1 (λ j. f j ∷ []) (λ j. refl) i ∙ omega arith in
-      rw (joined-more (λ j. f j ∷ []) i, ← e) (write_step s l at i (joined (λ j. f j ∷ []) i) v long p)
-
   -- items of two, from the front on
   pub put_two : (s l : List A) (i : ℕ) (f g : ℕ → A) (v w : A) → v ≡ f i → w ≡ g i → l ≡ splice s 0 (joined (λ j. f j ∷ g j ∷ []) i)
       → set (set l (2 * i) v) (2 * i + 1) w ≡ splice s 0 (joined (λ j. f j ∷ g j ∷ []) (i + 1))

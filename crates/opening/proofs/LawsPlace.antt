@@ -1,18 +1,16 @@
 -- Opening step by step: what each step asks of the buffers follows from an accepted sheet and the space rule, and what the last one leaves is the run's image at place 0.
 -- Assumes nothing.
-use Prim.Native.Nat.{ℕ, ◌+◌, ◌-◌, ◌*◌, ◌≤◌}
+use Prim.Native.Nat.{ℕ, ◌+◌, ◌*◌, ◌≤◌}
 use mathlib.Core.Path.{◌≡◌, sym, ap, ◌∙◌}
 use mathlib.Core.Bool.{Bool, true, false, ◌||◌}
-use mathlib.Core.Logic.{inl}
-use mathlib.Core.List.{List, [], ◌++◌}
+use mathlib.Core.List.{List, []}
 use native.Mathlib.Omega.{arith}
 use lib.ListN.{get_or, length, drop, take, set, replicate, length-replicate, length-drop}
-use Rattle.std.proofs.lemmas.List.{take-append-drop, drop-drop, take_at, length-take-le}
 use lib.Ieee.{Float}
 use Rattle.binary64.specs.Constants.{plus_zero}
 use Rattle.binary64.specs.Root.{root}
-use Rattle.stretch.specs.Stretch.{part, splice}
-use Rattle.stretch.specs.StretchLaws.{length_part, part_of_take, part_zero, part_take, splice-one, splice_is}
+use Rattle.stretch.specs.Stretch.{splice}
+use Rattle.stretch.specs.StretchLaws.{part_zero, part_take, splice-one, splice_is}
 use Rattle.mesh.specs.Mesh.{held_value}
 use Rattle.mesh.specs.Element.{flat}
 use Rattle.laplace.specs.declared.Places.{Places}
@@ -21,13 +19,10 @@ use Rattle.laplace.specs.Laid.{LaidFloats, LaidWords}
 use Rattle.laplace.specs.Row.{tags_in}
 use Rattle.laplace.specs.Whole.{pushes_in, rows_for, Assembled}
 use Rattle.conjugate.specs.Placed as Solving
-use Rattle.conjugate.specs.Placed.{placed, row_of, start_of, VectorsAt}
-use Rattle.conjugate.specs.PlacedLaws.{Adjoin, begun_in}
-use Rattle.conjugate.specs.Solver.{Solve, begun}
-use Rattle.conjugate.specs.SolverLaws.{Long, begun_long}
+use Rattle.conjugate.specs.Placed.{placed, start_of, VectorsAt}
 use Rattle.pde.specs.Path.{point_floats, coordinates_of}
 use Rattle.format.specs.Bytes.{Bytes}
-use Rattle.format.specs.Content.{default_limit}
+use Rattle.format.specs.Content.{default_limit, max_vertices, max_triangles}
 use Rattle.format.specs.Sheet.{parse, content_of}
 use Rattle.format.specs.Theorems.{parse_sound}
 use Rattle.sheet.specs.declared.Header.{Header}
@@ -42,7 +37,7 @@ use Rattle.model.proofs.SizeLaws.{sized}
 use Rattle.model.specs.Machine.{needs}
 use Rattle.work.specs.declared.Plan.{Plan}
 use Rattle.work.specs.declared.Run.{Run}
-use Rattle.work.specs.Layout.{at_right, at_values, at_x, at_gradients, at_norms, matrix_at, vectors_at}
+use Rattle.work.specs.Layout.{at_gradients, at_norms, matrix_at, vectors_at}
 use Rattle.work.specs.Memory.{begun_again}
 use Rattle.work.specs.Record.{new_run, no_run}
 use Rattle.refusal.specs.declared.Refusal.{Refusal}
@@ -53,7 +48,7 @@ use Rattle.std.specs.Prelude.{Result, None, ltb}
 use Rattle.std.proofs.lemmas.Result.{err_from_is_err_and}
 use Rattle.image.proofs.AcceptedLaws.{ready}
 use Rattle.image.specs.Calls.{Buffers, buffers, answered, answer_of}
-use Rattle.image.specs.CallLaws.{Counted, lacking, lacking_none}
+use Rattle.image.specs.CallLaws.{Counted, Enough, lacking, lacking_none}
 use Rattle.image.specs.Image.{plan_of, floats_of, words_of, path_of, floats_used, words_used, run_of, image}
 use Rattle.image.proofs.ImageLawsLengths.{length_words}
 use Rattle.image.proofs.ImageLawsPadded.{padded_nil}
@@ -64,16 +59,19 @@ use Rattle.image.specs.Replay.{Opens}
 use Rattle.image.proofs.ReplayLaws.{opens_refused, opens_short, opens_open}
 use Rattle.image.specs.Shown.{lengths_of}
 use Rattle.opening.proofs.LawsOpened.{lays_floats, lays_words, laid_out, sum-opened, floats_opened}
-use Rattle.sparse.specs.Sparse.{Entry}
-use Rattle.sparse.specs.Stored.{CsrAt, matrix}
-use Rattle.sparse.specs.ProductLaws.{matrix_kept, length-rows_of}
+use Rattle.sparse.specs.Stored.{CsrAt}
 
 -- ---- an accepted sheet
 
-module _ {sheet : List ℕ} {h : Header} (read : Read sheet h) where
-  pub read_within : Within sheet h
-  read_within = rw read.is.header (header_within sheet (content_of sheet) read.is.parsed)
+module _ {sheet : List ℕ} {h : Header} (is : IsAccepted sheet h) where
+  pub accepted_within : Within sheet h
+  accepted_within = rw is.header (header_within sheet (content_of sheet) is.parsed)
 
+  -- its bytes are below 256, so its content is in its ranges
+  pub read_of : Bytes sheet → Read sheet h
+  read_of bytes = record { is = is; good = parse_sound sheet (content_of sheet) bytes is.parsed }
+
+module _ {sheet : List ℕ} {h : Header} (read : Read sheet h) where
   pub n_is : h.n ≡ vertex_count (task (content_of sheet))
   unfolding task_of
   n_is = ap (λ (x : Header). x.n) read.is.header
@@ -85,8 +83,12 @@ module _ {sheet : List ℕ} {h : Header} (read : Read sheet h) where
   pub sized_read : Sized (task (content_of sheet))
   sized_read = sized (content_of sheet) read.good
 
-  pub few_read : (h.n ≤ 4096) × (h.t ≤ 8192)
-  few_read = (rw n_is sized_read.vertices_most, rw t_is sized_read.triangles_most)
+  pub few_read : (h.n ≤ max_vertices) × (h.t ≤ max_triangles)
+  few_read = rw (n_is, t_is) (sized_read.vertices_most, sized_read.triangles_most)
+
+-- the plan of an accepted sheet, in buffers that suffice
+pub suffices_by : {sheet : List ℕ} {h : Header} {plan : Plan} {b : Buffers} → Read sheet h → (plan ≡ plan_by h) × Enough (needs (task (content_of sheet))) (lengths_of b) → Suffices sheet h plan b
+suffices_by read q = record { read = read; plan_is = q.0; space = q.1 }
 
 -- ---- the assembly of what was loaded
 
@@ -113,60 +115,6 @@ module _ (sheet : List ℕ) (h : Header) (read : Read sheet h) (floats : List Fl
   lays_out floats' words' k a = laid_out mesh (sized_read read) floats words floats_fit words_fit floats' words' k (rw (e, n_is read, t_is read, l.floats_are, l.words_are, ← (task-held default_limit (content_of sheet))) at a)
 
 -- ---- place 0 of the field
-
-pub starts : (plan : Plan) (words : List ℕ) (long long₁ : ℕ) → Begins plan words long → long₁ ≡ long → (m : CsrAt) (v : VectorsAt) → m ≡ matrix_at plan.n plan.t → v ≡ vectors_at plan.n plan.t
-    → Solving.Starts words long₁ m v (2 * plan.n)
-starts plan words long long₁ b e m v em ev =
-    rw (em, ev)
-    (record {
-      laid = record {
-        sound = b.sound;
-        in_row = record { r_after = omega arith; p_after = omega arith; product_after = omega arith; ends = omega arith };
-        values_fit = omega arith;
-        values_outside = inl (omega arith);
-      };
-      reads = record {
-        in_row = record { r_after = omega arith; p_after = omega arith; product_after = omega arith; ends = omega arith };
-        right_fits = omega arith;
-        right_outside = inl (omega arith);
-      };
-    })
-
--- the vectors are begun at the front of what stands behind the matrix's values
-module _ (n t : ℕ) (words : List ℕ) where
-  abbrev begun_by : List Float → Solve
-  begun_by s = start_of words s (matrix_at n t) (at_right n t)
-
-  pub begun_behind : (front behind new right : List Float) (rows : List (List Entry)) (sum : Float) → rows ≡ matrix words front (matrix_at n t) → right ≡ part front (at_right n t) n → length new ≡ 4 * n
-      → Solving.Begun (take (4 * n) behind) new n (row_of n) (begun rows right) sum → Solving.Begun (take (4 * n) behind) (take (4 * n) (new ++ drop (4 * n) behind)) n (row_of n) (begun_by front) sum
-  begun_behind front behind new right rows sum er eb long g =
-      let e : take (4 * n) (new ++ drop (4 * n) behind) ≡ new = take_at new (drop (4 * n) behind) (4 * n) long in
-      rw (e, ← er, ← eb) g
-
-  -- and so of the whole buffer
-  module _ (s front behind behind' : List Float) (b : Solving.Starts words (length s) (matrix_at n t) (vectors_at n t) (at_right n t)) (ef : front ≡ take (at_x n t) s) (eb : behind ≡ drop (at_x n t) s) where
-    same_begun : begun_by front ≡ begun_by s
-    same_begun =
-        let kept : part front (at_values n t) (9 * t + n) ≡ part s (at_values n t) (9 * t + n) = rw ef (part_of_take s (at_x n t) (at_values n t) (9 * t + n) (omega arith)) in
-        let right : part front (at_right n t) n ≡ part s (at_right n t) n = rw ef (part_of_take s (at_x n t) (at_right n t) n (omega arith)) in
-        let rows : matrix words front (matrix_at n t) ≡ matrix words s (matrix_at n t) = matrix_kept words s front (matrix_at n t) b.laid.sound kept in
-        rw (rows, right)
-
-    begun_long' : Long n (begun_by s)
-    begun_long' = begun_long n (matrix words s (matrix_at n t)) (part s (at_right n t) n) (length-rows_of words s (matrix_at n t) n) (length_part s (at_right n t) n b.reads.right_fits)
-
-    pub begun_whole : (sum : Float) → length behind' ≡ length behind → Solving.Begun (take (4 * n) behind) (take (4 * n) behind') n (row_of n) (begun_by front) sum → drop (4 * n) behind' ≡ drop (4 * n) behind
-        → Solving.Begun s (front ++ behind') n (vectors_at n t) (begun_by s) sum
-    unfolding part
-    begun_whole sum el g ek =
-        let ends : at_x n t + 4 * n ≤ length s = omega (arith, b.laid.in_row.ends) in
-        let lb : length behind ≡ length s - at_x n t = ap length eb ∙ length-drop (at_x n t) s in
-        let long : length (take (4 * n) behind') ≡ 4 * n = length-take-le (4 * n) behind' (omega arith) in
-        let after : drop (4 * n) behind ≡ drop (at_x n t + 4 * n) s = ap (drop (4 * n)) eb ∙ drop-drop (4 * n) (at_x n t) s in
-        let put : front ++ behind' ≡ splice s (at_x n t) (take (4 * n) behind') =
-        ap (λ (l : List Float). front ++ l) (sym (take-append-drop (4 * n) behind')) ∙ rw (ef, ek, after) (sym (splice_is s (take (4 * n) behind') (at_x n t) (4 * n) long ends)) in
-        let next : Adjoin (vectors_at n t) n = record { r_at = omega arith; p_at = omega arith; product_at = omega arith } in
-        begun_in s (take (4 * n) behind) n (vectors_at n t) b.laid.in_row next (ap (take (4 * n)) eb) (begun_by s) begun_long' (rw same_begun at g) put
 
 pub begins_is : (plan : Plan) (words : List ℕ) (floats floats₁ floats₂ : List Float) (at norms : ℕ) (m : CsrAt) (v : VectorsAt) (rs norm : Float)
     → at ≡ at_gradients plan.n plan.t → floats₁ ≡ splice floats at (replicate (2 * plan.t + (plan.limit + 1) + 3 * plan.n) plus_zero) → m ≡ matrix_at plan.n plan.t → v ≡ vectors_at plan.n plan.t
@@ -268,9 +216,7 @@ space_lacks p floats words path ea eb ec e h = let f : _ ≡ lacks p floats word
 
 module _ (sheet : List ℕ) (bytes : Bytes sheet) (h : Header) (said : Checked.Accepted h ≡ checked_of (parse sheet)) where
   pub is_read : Read sheet h
-  is_read =
-      let a : IsAccepted sheet h = is_accepted sheet h said in
-      record { is = a; good = parse_sound sheet (content_of sheet) bytes a.parsed }
+  is_read = read_of (is_accepted sheet h said) bytes
 
   plan_read : (plan : Plan) → plan ≡ plan_by h → plan ≡ plan_of (task (content_of sheet))
   unfolding task_of
@@ -285,8 +231,8 @@ module _ (sheet : List ℕ) (bytes : Bytes sheet) (h : Header) (said : Checked.A
     unfolding needs
     needed = ap (λ (x : Plan). lacks x (length b.floats) (length b.words) (length b.path)) (sym (plan_read plan e))
 
-    pub suffices : lacks plan (length b.floats) (length b.words) (length b.path) ≡ false → Suffices sheet h plan b
-    suffices k = record { read = is_read; plan_is = e; space = lacking_none (needs (task (content_of sheet))) (lengths_of b) (needed ∙ k) }
+    pub suffices : lacks plan (length b.floats) (length b.words) (length b.path) ≡ false → (plan ≡ plan_by h) × Enough (needs (task (content_of sheet))) (lengths_of b)
+    suffices k = (e, lacking_none (needs (task (content_of sheet))) (lengths_of b) (needed ∙ k))
 
     pub answers_short : lacks plan (length b.floats) (length b.words) (length b.path) ≡ true → Opens sheet b (answered 8 no_run) b
     answers_short k = opens_short sheet b (content_of sheet) is_read.is.parsed (needed ∙ k)

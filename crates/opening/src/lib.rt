@@ -1,17 +1,20 @@
 // Opening: a sheet is checked, its content is laid out in the lent buffers, and a run of it stands at place 0.
+// The lent buffers are three parameters: `&` and `&mut` say which of them a function writes.
 #![tactic(auto)]
 
-ghost use Rattle.std.specs.Prelude.{◌≡◌, ◌+◌, ◌*◌, ◌≤◌, ◌<◌, ℕ, length, take, drop, get_or};
+ghost use Rattle.std.specs.Prelude.{◌≡◌, ◌+◌, ◌*◌, ◌≤◌, ◌<◌, ℕ, length, get_or};
 ghost use Rattle.stretch.specs.Stretch.{splice};
-ghost use Rattle.sparse.specs.Stored as Stored;
-ghost use Rattle.conjugate.specs.Placed as Placed;
+ghost use Rattle.format.specs.Bytes.{Bytes};
 ghost use Rattle.format.specs.Sheet.{content_of};
+ghost use Rattle.sheet.specs.ItemLaws.{IsAccepted};
+ghost use Rattle.model.specs.Machine.{needs};
 ghost use Rattle.model.specs.Task.{both_given, task};
-ghost use Rattle.work.specs.Layout as Layout;
 ghost use Rattle.work.specs.Record.{no_run};
 ghost use Rattle.image.specs.Calls.{buffers, answer_of};
+ghost use Rattle.image.specs.CallLaws.{Enough};
 ghost use Rattle.image.specs.Opening as Opening;
 ghost use Rattle.image.specs.Replay.{Opens};
+ghost use Rattle.image.specs.Shown.{lengths_of};
 
 use laplace::Places;
 use plane::Point;
@@ -28,7 +31,7 @@ fn start_of(x: Option<f64>, y: Option<f64>) -> Option<Point>
     x.zip(y).map(|(x, y)| Point { x, y })
 }
 
-// The counts and settings of an accepted sheet, with what an absent setting means.
+// The counts and settings of an accepted sheet, with what an absent setting means; `as usize`: a u32 is no `Into<usize>`.
 fn plan_of(h: Header) -> Plan
     ensures { result ≡ Opening.plan_by h }
 {
@@ -69,31 +72,9 @@ fn put_items<F: Fn(usize) -> u32>(places: &mut [u32], item: F)
     }
 }
 
-// The mesh of an accepted sheet, at the front of the floats and of the words.
-#[tactic(auto, using(crate::proofs::LawsPlace::read_within))]
-fn load(sheet: &[u8], h: Header, floats: &mut [f64], words: &mut [u32])
-    requires { Opening.Read sheet.now h × Opening.Fits h (length floats.old) (length words.old) }
-    ensures { Opening.Loaded (task (content_of sheet.now)) floats.old words.old floats.new words.new }
-{
-    let n = h.n;
-    let t = h.t;
-    put_vertices(floats, &sheet[h.vertices..], n);
-    let triangles = &sheet[h.triangles..];
-    put_items(&mut words[..3 * t], |i| sheet::items::corner(triangles, i));
-    let neighbours = &sheet[h.neighbours..];
-    put_items(
-        &mut words[3 * t..6 * t],
-        |i| sheet::items::corner(neighbours, i),
-    );
-    let tags = &sheet[h.tags..];
-    put_items(
-        &mut words[6 * t..6 * t + n],
-        |i| sheet::items::tag(tags, i) as u32,
-    );
-}
-
 // ---- the matrix, the right side and place 0
 
+// The places of work's layout, as `assemble` asks for them. Offsets, since both buffers are lent whole: no heap, and one order of lists in each.
 fn places_at(n: usize, t: usize) -> Places
     requires { (n ≤ 4096) × (t ≤ 8192) }
     ensures { result ≡ Opening.places_at n t }
@@ -113,77 +94,84 @@ fn places_at(n: usize, t: usize) -> Places
     }
 }
 
-// The mesh of an accepted sheet, with its matrix and its right side.
-fn lay_out(sheet: &[u8], h: Header, floats: &mut [f64], words: &mut [u32])
-    requires { Opening.Read sheet.now h × Opening.Fits h (length floats.old) (length words.old) }
-    ensures { Opening.LaidOut (task (content_of sheet.now)) floats.old words.old floats.new words.new }
-{
-    let n = h.n;
-    let t = h.t;
-    load(sheet, h, floats, words);
-    let at = places_at(n, t);
-    assembly::assemble(floats, words, n, t, at, Run::TINY);
-}
-
-// The vectors of place 0 at the front of `behind`, by the matrix and the right side that stand before them. Answers r·r.
-fn begin_behind(front: &[f64], behind: &mut [f64], words: &[u32], n: usize, t: usize) -> f64
-    requires sound { Stored.Sound words.now (Layout.matrix_at n t) }
-    requires counts { (n ≤ 4096) × (t ≤ 8192) }
-    requires long { (length front.now ≡ Layout.at_x n t) × (4 * n ≤ length behind.old) }
-    ensures begun { Placed.Begun (take (4 * n) behind.old) (take (4 * n) behind.new) n (Placed.row_of n)
-        (Placed.start_of words.now front.now (Layout.matrix_at n t) (Layout.at_right n t)) result }
-    ensures kept { drop (4 * n) behind.new ≡ drop (4 * n) behind.old }
-{
-    let a = work::layout::matrix(front, words, n, t);
-    conjugate::begin_in_row(&a, &front[2 * n..3 * n], &mut behind[..4 * n], n)
-}
-
-// The vectors of place 0. Answers r·r.
-fn begin_vectors(floats: &mut [f64], words: &[u32], n: usize, t: usize) -> f64
-    requires counts { (n ≤ 4096) × (t ≤ 8192) }
-    requires starts { Placed.Starts words.now (length floats.old) (Layout.matrix_at n t) (Layout.vectors_at n t) (Layout.at_right n t) }
-    ensures { Placed.Begun floats.old floats.new n (Layout.vectors_at n t)
-        (Placed.start_of words.now floats.old (Layout.matrix_at n t) (Layout.at_right n t)) result }
-{
-    let x = work::layout::at_x(n, t);
-    let (front, behind) = floats.split_at_mut(x);
-    begin_behind(front, behind, words, n, t)
-}
-
 // Place 0 of the field: no gradients, nothing kept, the vectors begun, and the first norm. Answers r·r.
 fn begin(plan: Plan, floats: &mut [f64], words: &[u32]) -> f64
     requires { Opening.Begins plan words.now (length floats.old) }
     ensures { Opening.Begun plan words.now floats.old result floats.new }
 {
-    let n = plan.n;
-    let t = plan.t;
-    let gradients = work::layout::at_gradients(n, t);
-    stretch::fill(floats, gradients, 2 * t + (plan.limit + 1) + 3 * n, 0.0);
-    let rs = begin_vectors(floats, words, n, t);
-    let norms = work::layout::at_norms(n, t);
+    let gradients = plan.at_gradients();
+    stretch::fill(
+        floats,
+        gradients,
+        2 * plan.t + (plan.limit + 1) + 3 * plan.n,
+        0.0,
+    );
+    let rs = work::vectors::begin(floats, words, plan);
+    let norms = plan.at_norms();
     floats[norms] = root::sqrt(rs);
     rs
 }
 
-// ---- all of it
+// ---- an accepted sheet, laid out
 
-// An accepted sheet at place 0, in buffers that suffice.
-fn place_zero(
-    sheet: &[u8],
-    h: Header,
-    plan: Plan,
-    floats: &mut [f64],
-    words: &mut [u32],
-    path: &mut [f64],
-) -> Run
-    requires { Opening.Suffices sheet.now h plan (buffers floats.old words.old path.old) }
-    ensures { Opening.Stands (task (content_of sheet.now)) (buffers floats.old words.old path.old) result (buffers floats.new words.new path.new) }
-{
-    lay_out(sheet, h, floats, words);
-    let rs = begin(plan, floats, words);
-    stretch::fill(path, 0, 2 * plan.room, 0.0);
-    Run::new(plan, rs)
+// An accepted sheet, with its header.
+#[derive(Clone, Copy)]
+struct Accepted<'a> {
+    bytes: &'a [u8],
+    header: Header,
+    ghost below: { Bytes bytes.now },
+    ghost is: { IsAccepted bytes.now header },
 }
+
+impl<'a> Accepted<'a> {
+    // The mesh, at the front of the floats and of the words.
+    #[tactic(auto, using(crate::proofs::LawsPlace::accepted_within))]
+    fn load(&self, floats: &mut [f64], words: &mut [u32])
+        requires { Opening.Fits self.now.header (length floats.old) (length words.old) }
+        ensures { Opening.Loaded (task (content_of self.now.bytes.now)) floats.old words.old floats.new words.new }
+    {
+        let h = self.header;
+        let n = h.n;
+        let t = h.t;
+        put_vertices(floats, &self.bytes[h.vertices..], n);
+        let triangles = &self.bytes[h.triangles..];
+        put_items(&mut words[..3 * t], |i| sheet::items::corner(triangles, i));
+        let neighbours = &self.bytes[h.neighbours..];
+        put_items(
+            &mut words[3 * t..6 * t],
+            |i| sheet::items::corner(neighbours, i),
+        );
+        let tags = &self.bytes[h.tags..];
+        put_items(
+            &mut words[6 * t..6 * t + n],
+            |i| u32::from(sheet::items::tag(tags, i)),
+        );
+    }
+
+    // The mesh, with its matrix and its right side.
+    fn lay_out(&self, floats: &mut [f64], words: &mut [u32])
+        requires { Opening.Fits self.now.header (length floats.old) (length words.old) }
+        ensures { Opening.LaidOut (task (content_of self.now.bytes.now)) floats.old words.old floats.new words.new }
+    {
+        self.load(floats, words);
+        let h = self.header;
+        let at = places_at(h.n, h.t);
+        assembly::assemble(floats, words, h.n, h.t, at, Run::TINY);
+    }
+
+    // At place 0, in buffers that suffice.
+    fn place_zero(&self, plan: Plan, floats: &mut [f64], words: &mut [u32], path: &mut [f64]) -> Run
+        requires { (plan ≡ Opening.plan_by self.now.header) × Enough (needs (task (content_of self.now.bytes.now))) (lengths_of (buffers floats.old words.old path.old)) }
+        ensures { Opening.Stands (task (content_of self.now.bytes.now)) (buffers floats.old words.old path.old) result (buffers floats.new words.new path.new) }
+    {
+        self.lay_out(floats, words);
+        let rs = begin(plan, floats, words);
+        stretch::fill(path, 0, 2 * plan.room, 0.0);
+        Run::new(plan, rs)
+    }
+}
+
+// ---- all of it
 
 // The run of a sheet at place 0; or the sheet's refusal, then that of the space, with every lent place as it was.
 pub fn open(
@@ -199,6 +187,10 @@ pub fn open(
     if plan.space().lacks(floats.len(), words.len(), path.len()) {
         return Err(Refusal::Space);
     }
-    let run = place_zero(sheet, h, plan, floats, words, path);
+    let accepted = Accepted {
+        bytes: sheet,
+        header: h,
+    };
+    let run = accepted.place_zero(plan, floats, words, path);
     Ok(run)
 }

@@ -1,14 +1,16 @@
-// One pass on the lent buffers, and passes in a row.
+// One pass on the lent buffers, and passes in a row. Floats and path are two parameters, so that `&` and `&mut` say which of them a function writes (work's `Laid`); they are lent whole, and the front is cut out of them.
+// That a stand's counts lie in their ranges (`Standing`), and that the buffers are long enough (`Roomy`), are clauses and no ghost fields. Each pass makes another stand; that its counts stay in range is one law (`once_standing` of work), which a clause uses and a field would hide. The bound of `place + k < 1000000` is of place and passes asked together, so it is no part of `Standing`.
+// Ends are numbers, as in `work::Stand`.
 #![tactic(auto)]
 
-ghost use Rattle.std.specs.Prelude.{◌≡◌, true, [], ◌∷◌, ◌+◌, ◌≤◌, ◌<◌, length};
+ghost use Rattle.std.specs.Prelude.{◌≡◌, true, false, [], ◌∷◌, ◌+◌, ◌≤◌, ◌<◌, length};
 ghost use Rattle.stretch.specs.Stretch.{splice};
 ghost use Rattle.work.specs.Memory as Memory;
 ghost use Rattle.work.specs.Memory.{floats_given, path_given, work};
 ghost use Rattle.work.specs.Ready.{Ready, Standing, Roomy, Writable, Crosses, Comes};
 
 use plane::Point;
-use work::{Gives, Plan, Stand};
+use work::{Gives, Laid, Plan, Stand};
 
 // The first point of a path.
 fn put_first(path: &mut [f64], p: Point)
@@ -27,15 +29,14 @@ pub fn deliver(floats: &mut [f64], path: &mut [f64], plan: Plan, stand: Stand, g
     match gives {
         Gives::Nothing => {}
         Gives::Norm(v) => {
-            let k = work::layout::at_norms(plan.n, plan.t) + stand.norms;
+            let k = plan.at_norms() + stand.norms;
             floats[k] = v;
         }
         Gives::First(p) => {
             put_first(path, p);
         }
         Gives::Crossed(c) => {
-            let walk = stand.walk;
-            tracing::path::put_added(path, plan.room, walk, c);
+            tracing::path::put_added(path, plan.room, stand.walk, c);
         }
     }
 }
@@ -43,68 +44,52 @@ pub fn deliver(floats: &mut [f64], path: &mut [f64], plan: Plan, stand: Stand, g
 // Whether a pass from a path that has no end is a crossing.
 fn crosses(stand: Stand) -> bool
     requires { stand.walk.end ≡ 0 }
-    ensures { result ≡ true → Crosses stand }
+    ensures yes { result ≡ true → Crosses stand }
+    ensures no { result ≡ false → Crosses stand → ⊥ }
 {
     stand.end != 0 && stand.walk.points != 0
 }
 
-// A crossing on the lent buffers: its points are written behind the points, and nothing else.
-fn cross(floats: &[f64], words: &[u32], path: &mut [f64], plan: Plan, stand: Stand) -> Stand
-    requires { Ready plan words.now × Standing plan stand × (stand.place < 1000000) × Roomy plan floats.now path.old × Crosses stand }
-    ensures { Comes (Memory.once plan words.now (work floats.now path.old stand)) result floats.now path.new }
-{
-    let f = work::layout::at_norms(plan.n, plan.t);
-    let walk = stand.walk;
-    let c = kinds::crossing_of(&floats[..f], words, plan, kinds::entry_of(walk));
-    tracing::path::put_added(path, plan.room, walk, c);
-    kinds::crossed(plan, stand, c)
-}
-
 // A pass on the lent buffers.
-fn once(floats: &mut [f64], words: &[u32], path: &mut [f64], plan: Plan, stand: Stand) -> Stand
-    requires { Ready plan words.now × Standing plan stand × (stand.place < 1000000) × Roomy plan floats.old path.old × (stand.walk.end ≡ 0) }
-    ensures { Comes (Memory.once plan words.now (work floats.old path.old stand)) result floats.new path.new }
+fn once(floats: &mut [f64], path: &mut [f64], laid: &Laid, stand: Stand) -> Stand
+    requires { Standing laid.now.plan stand × (stand.place < 1000000) × Roomy laid.now.plan floats.old path.old × (stand.walk.end ≡ 0) }
+    ensures { Comes (Memory.once laid.now.plan laid.now.words.now (work floats.old path.old stand)) result floats.new path.new }
 {
-    let f = work::layout::at_norms(plan.n, plan.t);
-    let d = kinds::step(&mut floats[..f], words, plan, stand);
-    let gives = d.gives;
-    deliver(floats, path, plan, stand, gives);
+    let f = laid.plan.at_norms();
+    let d = kinds::step(&mut floats[..f], laid, stand);
+    deliver(floats, path, laid.plan, stand, d.gives);
     d.stand
 }
 
-// At most k crossings, up to the path's end. This loop and that of `go` stay two: one over a closure would state each step's contract twice.
-fn cross_on(
-    floats: &[f64],
-    words: &[u32],
-    path: &mut [f64],
-    plan: Plan,
-    stand: Stand,
-    k: usize,
-) -> Stand
-    requires { Ready plan words.now × Standing plan stand × (stand.place + k < 1000000) × Roomy plan floats.now path.old × Crosses stand }
-    ensures { Comes (Memory.goes plan words.now k (work floats.now path.old stand)) result floats.now path.new }
+// At most k crossings, up to the path's end: their points are written behind the points, and nothing else. The field is made once for all of them. This loop and that of `go` are two: one over a closure would state each step's contract twice. The calls for one crossing stand also in `kinds::crossing_of`, whose field is made for it, and in dry, where the gradient may have to be worked out.
+fn cross_on(floats: &[f64], path: &mut [f64], laid: &Laid, stand: Stand, k: usize) -> Stand
+    requires { Standing laid.now.plan stand × (stand.place + k < 1000000) × Roomy laid.now.plan floats.now path.old × Crosses stand }
+    ensures { Comes (Memory.goes laid.now.plan laid.now.words.now k (work floats.now path.old stand)) result floats.now path.new }
 {
+    let f = laid.plan.at_norms();
+    let front = &floats[..f];
+    let u = laid.plan.at_x();
+    let field = laid.field(front, u);
+    let at = laid.plan.at_gradients();
+    let gradients = &front[at..];
     let mut s = stand;
     for _i in 0..k {
-        if s.walk.end != 0 {
+        let walk = s.walk;
+        if walk.end != 0 {
             return s;
         }
-        s = cross(floats, words, path, plan, s);
+        let g = pde::cross::gradient_at(gradients, walk.triangle);
+        let c = kinds::crossing_by(&field, laid.plan.step, g, kinds::entry_of(walk));
+        tracing::path::put_added(path, laid.plan.room, walk, c);
+        s = kinds::crossed(laid.plan, s, c);
     }
     s
 }
 
 // At most k passes, up to the path's end: behind a crossing there are only crossings.
-pub fn go(
-    floats: &mut [f64],
-    words: &[u32],
-    path: &mut [f64],
-    plan: Plan,
-    stand: Stand,
-    k: usize,
-) -> Stand
-    requires { Ready plan words.now × Standing plan stand × (stand.place + k < 1000000) × Roomy plan floats.old path.old }
-    ensures { Comes (Memory.goes plan words.now k (work floats.old path.old stand)) result floats.new path.new }
+pub fn go(floats: &mut [f64], path: &mut [f64], laid: &Laid, stand: Stand, k: usize) -> Stand
+    requires { Standing laid.now.plan stand × (stand.place + k < 1000000) × Roomy laid.now.plan floats.old path.old }
+    ensures { Comes (Memory.goes laid.now.plan laid.now.words.now k (work floats.old path.old stand)) result floats.new path.new }
 {
     let mut s = stand;
     for i in 0..k {
@@ -112,9 +97,9 @@ pub fn go(
             return s;
         }
         if crosses(s) {
-            return cross_on(floats, words, path, plan, s, k - i);
+            return cross_on(floats, path, laid, s, k - i);
         }
-        s = once(floats, words, path, plan, s);
+        s = once(floats, path, laid, s);
     }
     s
 }

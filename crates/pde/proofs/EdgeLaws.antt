@@ -1,36 +1,18 @@
--- Laws of whether there is a neighbour, of a turn of the search over a cut edge, and of the nearest exit's loop. Assumes nothing.
-use mathlib.Core.Path.{◌≡◌, refl, sym, ap, ◌∙◌}
-use mathlib.Core.Bool.{Bool, true, false, not, false≢true}
+-- Laws of a turn of the search over a cut edge, and of the nearest exit's loop. Assumes nothing.
+use mathlib.Core.Path.{◌≡◌, refl}
+use mathlib.Core.Bool.{false}
 use mathlib.Core.List.{List}
 use Prim.Native.Nat.{ℕ, ◌+◌, ◌≤◌}
 use native.Mathlib.Numerals.{add-one}
 use native.Mathlib.Omega.{arith}
 use borrow.Author.Tests.{eq-eqb, ne_eqb}
 use lib.Ieee.{Float, inf, div, of_bits}
-use Rattle.std.specs.Prelude.{Option, None, is_some, eqb}
+use Rattle.std.specs.Prelude.{None}
 use Rattle.binary64.specs.Arith.{◌⊘◌}
 use Rattle.binary64.specs.Constants.{plus_zero, one}
 use Rattle.binary64.specs.Root.{root}
-use Rattle.mesh.specs.Mesh.{no_neighbour, triangle_of}
-use Rattle.mesh.specs.WorkLaws.{is_some_over}
 use Rattle.plane.specs.declared.Point.{Point}
 use Rattle.pde.specs.Exit.{Nearest, nearest, considered, nearest_of, cut_edge_of, cut_triangle}
-
--- ---- whether there is a neighbour
-
-pub has_none : (w : ℕ) {o : Option ℕ} → o ≡ triangle_of w → is_some o ≡ false → eqb w no_neighbour ≡ true
-has_none w {o} p h = by (eqb w no_neighbour) (sym (is_some_over w) ∙ sym (ap is_some p) ∙ h)
-  where
-    by : (b : Bool) → not b ≡ false → b ≡ true
-    by true e = refl
-    by false e = absurd (false≢true (sym e))
-
-pub has_some : (w : ℕ) {o : Option ℕ} → o ≡ triangle_of w → is_some o ≡ true → eqb w no_neighbour ≡ false
-has_some w {o} p h = by (eqb w no_neighbour) (sym (is_some_over w) ∙ sym (ap is_some p) ∙ h)
-  where
-    by : (b : Bool) → not b ≡ true → b ≡ false
-    by true e = absurd (false≢true e)
-    by false e = refl
 
 -- ---- the other side of a cut edge from a to b
 

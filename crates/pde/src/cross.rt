@@ -1,4 +1,4 @@
-// One crossing of a triangle: along the level line turned outward by the step.
+// One crossing of a triangle: along the level line turned outward by the step. Of `t < triangle_count` and `e < 3` see edges.rt.
 ghost use Rattle.std.specs.Prelude.{◌≡◌, ◌+◌, ◌*◌, ◌<◌, length};
 ghost use Rattle.mesh.specs.Mesh.{triangle_count, neighbour, triangle_of};
 ghost use Rattle.pde.specs.Bounds.{SideIn};
@@ -11,7 +11,7 @@ use plane::Point;
 // Bits 400921fb54442d18.
 const PI: f64 = 3.141592653589793;
 
-// The gradient of triangle t, of those of all triangles.
+// The gradient of triangle t, of those of all triangles: a list with a definition of its own, as the vertices have theirs (`mesh::vertex`).
 #[tactic(auto, unfolding(crate::specs::Crossing::gradient_at))]
 pub fn gradient_at(gradients: &[f64], t: usize) -> Point
     requires { 2 * t + 1 < length gradients.now }
@@ -23,6 +23,7 @@ pub fn gradient_at(gradients: &[f64], t: usize) -> Point
     }
 }
 
+#[tactic(auto, unfolding(crate::specs::Crossing::magnitude))]
 fn magnitude(g: Point) -> f64
     ensures { result ≡ Crossings.magnitude g }
 {
@@ -30,6 +31,7 @@ fn magnitude(g: Point) -> f64
 }
 
 // The unit gradient turned a quarter, plus step · mag / 2π of the unit gradient.
+#[tactic(auto, unfolding(crate::specs::Crossing::direction))]
 fn direction(step: f64, g: Point, mag: f64) -> Point
     ensures { result ≡ Crossings.direction step g mag }
 {
@@ -67,6 +69,7 @@ fn unentered(mesh: &Mesh, t: usize, e: usize) -> Beyond
 
 impl<'a> Field<'a> {
     // The field at p, interpolated in triangle t.
+    #[tactic(auto, unfolding(crate::specs::Crossing::value_in))]
     fn value_in(&self, t: usize, p: Point) -> f64
         requires { t < triangle_count self.now.mesh.triangles.now }
         ensures { result ≡ Crossings.value_in self.now.mesh.vertices.now self.now.mesh.triangles.now self.now.values.now t p }
@@ -89,6 +92,7 @@ impl<'a> Field<'a> {
     }
 
     // Beyond an edge of triangle t, left at an exit.
+    #[tactic(auto, unfolding(crate::specs::Crossing::beyond, crate::specs::Crossing::entering))]
     fn beyond(&self, above: f64, t: usize, exit: Exit) -> Beyond
         requires { (t < triangle_count self.now.mesh.triangles.now) × (exit.edge < 3) }
         ensures { result ≡ Crossings.beyond above self.now.mesh.vertices.now self.now.mesh.triangles.now self.now.mesh.neighbours.now (triangle_count self.now.mesh.triangles.now) self.now.values.now t exit.edge exit.point }

@@ -1,4 +1,5 @@
 // Where a ray leaves a triangle, and which edge is entered beyond.
+// `t < triangle_count` and `e < 3` stand in each contract: the first is a fact of two values, a mesh and a number, which no type of either holds, and an edge goes with it to the mesh's accessors, which take both as numbers.
 ghost use Rattle.std.specs.Prelude.{◌≡◌, ◌<◌};
 ghost use Rattle.mesh.specs.Mesh.{triangle_count};
 ghost use Rattle.pde.specs.Exit as Exits;
@@ -16,6 +17,7 @@ fn squared(p: Point, q: Point) -> f64
     dx * dx + dy * dy
 }
 
+#[tactic(auto, unfolding(crate::specs::Exit::distance))]
 pub fn distance(p: Point, q: Point) -> f64
     ensures { result ≡ Exits.distance p q }
 {
@@ -76,7 +78,7 @@ pub fn find_exit_edge(mesh: &Mesh, entry: Entry, dir: Point, least: f64) -> Cand
     best
 }
 
-// The first edge of triangle t whose neighbour is `prev`.
+// The first edge of triangle t whose neighbour is `prev`, by the words: `prev` may be any number, also the one that stands for no neighbour.
 pub fn entry_edge_of(mesh: &Mesh, t: usize, prev: usize) -> Option<Side>
     requires { t < triangle_count mesh.now.triangles.now }
     ensures { result ≡ Exits.entry_edge mesh.now.neighbours.now t prev }

@@ -34,7 +34,7 @@ impl<'a> Field<'a> {
     }
 }
 
-// A point in a triangle, and the edge by which the path came in (3: none).
+// A point in a triangle, and the edge by which the path came in (3: none). A number and no Option, since it is handed on from a `Walk` and back to one.
 #[derive(Clone, Copy)]
 pub struct Entry {
     pub point: Point,
@@ -89,7 +89,8 @@ pub struct Rule {
     pub spacing: f64,
 }
 
-// Where the path stands: its position and triangle, how many points it has, the edge by which it came into the triangle, and its end.
+// Where the path stands: its position and triangle, how many points it has, the edge by which it came into the triangle (3: none), and its end (0: none yet).
+// Edge and end are numbers, and triangle and edge no `Side`, since a run's record is whatever numbers C hands over, and a stand is tested only after the lengths of the lent buffers: any number has to fit.
 #[derive(Clone, Copy)]
 pub struct Walk {
     pub position: Point,

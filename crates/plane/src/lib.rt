@@ -1,4 +1,5 @@
 // Points of the plane and the predicates under the spiral, each operation in the order in which the Rust has it.
+// A triangle's corners and an edge's ends are points of their own: the callers have them so, and `sign` takes the corners in pairs.
 #![tactic(auto)]
 
 ghost use Rattle.std.specs.Prelude.{◌≡◌};

@@ -7,7 +7,7 @@ use native.Mathlib.Omega.{arith}
 use borrow.Author.Tests.{leb-true, lt-ltb, ne_eqb}
 use lib.Dec.{leb}
 use lib.ListN.{length, take, drop, length-drop}
-use lib.Seq.{take_all, length-take-le}
+use lib.Seq.{length-take-le}
 use lib.Ieee.{Float}
 use Rattle.binary64.specs.Number.{pick}
 use Rattle.stretch.specs.Stretch.{part}
@@ -95,7 +95,3 @@ last_shown r r' b b' k e z p q = rw (← e, z, p, q)
 pub long_prints : {out out' : List ℕ} {r : ℕ} (sheet : List ℕ) (b : Buffers) → most_bytes < length sheet → Printed out 0 (refused_text 8) r out' → Prints sheet b out r b out'
 unfolding printed printed_buffers
 long_prints sheet b h p = record { text = printed_as (printed sheet) p (rw (lt-ltb most_bytes (length sheet) h)); held = rw (lt-ltb most_bytes (length sheet) h) }
-
--- no more bytes than there are
-pub prints_all : {b b' : Buffers} {out out' : List ℕ} {r : ℕ} (sheet : List ℕ) (got : ℕ) → length sheet < got → Prints sheet b out r b' out' → Prints (take got sheet) b out r b' out'
-prints_all sheet got h p = rw (take_all got sheet (omega arith)) p

@@ -1,13 +1,16 @@
 // What `spiral` prints of a sheet (document 01, Length, writer, program): the text of its run at the last place, or of the refusal.
 #![tactic(auto)]
 
-ghost use Rattle.std.specs.Prelude.{take};
+ghost use Rattle.std.specs.Prelude.{◌≤◌, length, take};
+ghost use Rattle.refusal.specs.Refusal.{number_of};
+ghost use Rattle.text.specs.Text.{refused_text};
 ghost use Rattle.image.specs.Calls.{buffers};
 ghost use Rattle.text.specs.Put.{Printed};
 ghost use Rattle.printing.specs.Printed as Text;
 ghost use Rattle.printing.specs.Steps as Steps;
 
 use refusal::Refusal;
+use text::Shown;
 use work::Run;
 
 // The most bytes of a sheet, and the places of the buffers: floats, whole numbers, x and y of each point.
@@ -25,29 +28,32 @@ pub const PATH: usize = 8192;
 // More than the text of lists that stand in such buffers: 67 + 37 · (8,192 + 8,192) bytes at the most.
 pub const TEXT: usize = 655360;
 
-// What a run shows.
+// The text of a refusal.
+fn put_refusal(out: &mut [u8], refusal: Refusal) -> usize
+    requires { 29 ≤ length out.old }
+    ensures { Printed out.old 0 (refused_text (number_of refusal)) result out.new }
+{
+    text::put_refused(out, u64::from(refusal.number()))
+}
+
+// What a run shows. Counts by `as`: no `From` makes a u64 of a usize.
 fn put_shown(out: &mut [u8], run: Run, floats: &[f64], path: &[f64]) -> usize
     requires { Steps.Room floats.now path.now out.old }
     ensures { Printed out.old 0 (Steps.shown_text run floats.now path.now) result out.new }
 {
-    let us = showing::field(run, floats);
-    let rs = showing::norms(run, floats);
-    let gs = showing::gradients(run, floats);
-    let ps = showing::points(run, path);
-    let s = run.stand;
-    let walk = s.walk;
-    text::put_run(
-        out,
-        s.place as u64,
-        s.end as u64,
-        walk.end as u64,
-        us,
-        rs,
-        gs,
-        ps,
-    )
+    let shown = Shown {
+        place: run.stand.place as u64,
+        field_end: run.stand.end as u64,
+        path_end: run.stand.walk.end as u64,
+        field: showing::field(run, floats),
+        norms: showing::norms(run, floats),
+        gradients: showing::gradients(run, floats),
+        points: showing::points(run, path),
+    };
+    text::put_run(out, shown)
 }
 
+// Three buffers, not one struct of them: `&` and `&mut` say here and above which of them is written.
 // At the last place: no run has more places than an advance may ask for.
 fn put_last(
     out: &mut [u8],
@@ -59,14 +65,15 @@ fn put_last(
     requires { Steps.Room floats.old path.old out.old }
     ensures { Steps.PutsLast opened (buffers floats.old words.now path.old) out.old result (buffers floats.new words.now path.new) out.new }
 {
-    let answer = advancing::advance(opened, 4294967295, floats, words, path);
+    let answer = advancing::advance(opened, u32::MAX, floats, words, path);
     match answer {
         Ok(last) => put_shown(out, last, floats, path),
-        Err(refusal) => text::put_refused(out, refusal.number() as u64),
+        Err(refusal) => put_refusal(out, refusal),
     }
 }
 
 // The text, from the front of the lent bytes on. Answers how many bytes it has.
+// The buffers are lent alike here and in `print_read` alone: a struct of references would need a clause that they stay the same ones, a struct of arrays all of them in one place.
 pub fn print_sheet(
     sheet: &[u8],
     floats: &mut [f64; FLOATS],
@@ -77,32 +84,15 @@ pub fn print_sheet(
     ensures { Text.Prints sheet.now (buffers floats.old words.old path.old) out.old result (buffers floats.new words.new path.new) out.new }
 {
     if SHEET < sheet.len() {
-        return text::put_refused(out, Refusal::Space.number() as u64);
+        return put_refusal(out, Refusal::Space);
     }
     match opening::open(sheet, floats, words, path) {
         Ok(run) => put_last(out, run, floats, words, path),
-        Err(refusal) => text::put_refused(out, refusal.number() as u64),
+        Err(refusal) => put_refusal(out, refusal),
     }
 }
 
-// The same of the first `got` bytes, or of all where `got` is more.
-fn print_first(
-    space: &[u8],
-    got: usize,
-    floats: &mut [f64; FLOATS],
-    words: &mut [u32; WORDS],
-    path: &mut [f64; PATH],
-    out: &mut [u8; TEXT],
-) -> usize
-    ensures { Text.Prints (take got space.now) (buffers floats.old words.old path.old) out.old result (buffers floats.new words.new path.new) out.new }
-{
-    if space.len() < got {
-        return print_sheet(space, floats, words, path, out);
-    }
-    print_sheet(&space[..got], floats, words, path, out)
-}
-
-// The same of what was read, into a space for one byte more than a sheet may have.
+// The same of what was read, into a space for one byte more than a sheet may have: the array's length is the promise that so many were asked for.
 pub fn print_read(
     space: &[u8; READ],
     got: usize,
@@ -113,5 +103,5 @@ pub fn print_read(
 ) -> usize
     ensures { Text.PrintsRead space.now got (buffers floats.old words.old path.old) out.old result (buffers floats.new words.new path.new) out.new }
 {
-    print_first(space, got, floats, words, path, out)
+    print_sheet(&space[..got.min(READ)], floats, words, path, out)
 }

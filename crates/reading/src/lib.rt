@@ -13,6 +13,7 @@ pub fn read_full<R: Read>(reader: &mut R, buf: &mut [u8]) -> io::Result<usize>
     ensures bytes { IfOk result (λ n. Consumes (R.remaining reader.old) (R.remaining reader.new) (take n buf.new)) }
     ensures end { IfOk result (λ n. n < length buf.new → IsAtEnd (R.remaining reader.new)) }
 {
+    // By place: each read says how far it went, and std's `read_exact` says little of an input that ends before.
     let mut done = 0;
     while done < buf.len() {
         let n = reader.read(&mut buf[done..])?;

@@ -1,8 +1,8 @@
 // A record from its numbers. A flag is 0 or 1 (`flagged`); what is read of another is not used.
-ghost use Rattle.std.specs.Prelude.{◌≡◌, length};
+ghost use Rattle.std.specs.Prelude.{◌≡◌};
 ghost use Rattle.records.specs.Numbers as Numbers;
 
-use crate::lists::{Lists, get_or};
+use crate::lists::Lists;
 use pde::Walk;
 use plane::Point;
 use work::{Kept, Plan, Run, Stand};
@@ -78,34 +78,34 @@ impl Lists<'_> {
             norms: self.whole(15) as usize,
         })
     }
-}
 
-// Whether lists of these lengths hold a record.
-pub fn fits(wholes: usize, reals: usize) -> bool
-    ensures { result ≡ Numbers.fitting wholes reals }
-{
-    (17 <= wholes) & (8 <= reals)
-}
+    // Whether the lists hold a record.
+    #[tactic(auto, unfolding(crate::specs::Numbers::fits))]
+    pub fn fits(&self) -> bool
+        ensures { result ≡ Numbers.fits self.now.wholes.now self.now.reals.now }
+    {
+        (17 <= self.wholes.len()) & (8 <= self.reals.len())
+    }
 
-// Whether both flags are 0 or 1.
-#[tactic(auto, unfolding(crate::specs::Numbers::flagged))]
-pub fn flagged(wholes: &[u64]) -> bool
-    ensures { result ≡ Numbers.flagged wholes.now }
-{
-    let start = get_or(wholes, 4, 0);
-    let mark = get_or(wholes, 13, 0);
-    (start <= 1) & (mark <= 1)
-}
+    // Whether both flags are 0 or 1.
+    #[tactic(auto, unfolding(crate::specs::Numbers::flagged))]
+    pub fn flagged(&self) -> bool
+        ensures { result ≡ Numbers.flagged self.now.wholes.now }
+    {
+        let start = self.whole(4);
+        let mark = self.whole(13);
+        (start <= 1) & (mark <= 1)
+    }
 
-#[tactic(auto, unfolding(crate::specs::Numbers::run_from))]
-pub fn run_from(wholes: &[u64], reals: &[f64]) -> Run
-    ensures { result ≡ Numbers.run_from wholes.now reals.now }
-{
-    let lists = Lists { wholes, reals };
-    Run {
-        plan: lists.plan(),
-        stand: lists.stand(),
-        mark: lists.mark(),
-        passes: lists.whole(16),
+    #[tactic(auto, unfolding(crate::specs::Numbers::run_from))]
+    pub fn run(&self) -> Run
+        ensures { result ≡ Numbers.run_from self.now.wholes.now self.now.reals.now }
+    {
+        Run {
+            plan: self.plan(),
+            stand: self.stand(),
+            mark: self.mark(),
+            passes: self.whole(16),
+        }
     }
 }

@@ -6,16 +6,14 @@ ghost use Rattle.binary64.specs.Constants.{plus_zero};
 pub fn get_or<T: Copy>(list: &[T], at: usize, absent: T) -> T
     ensures { result ≡ get_or list.now at absent }
 {
-    match list.get(at) {
-        Some(x) => *x,
-        None => absent,
-    }
+    list.get(at).copied().unwrap_or(absent)
 }
 
 #[inline]
 pub fn put<T: Copy>(out: &mut [T], at: usize, v: T)
     ensures { out.new ≡ set out.old at v }
 {
+    // Not by `get_mut`, whose contract says nothing of what the list ends as.
     if at < out.len() {
         out[at] = v;
     }
@@ -28,6 +26,7 @@ pub struct Lists<'a> {
     pub reals: &'a [f64],
 }
 
+// One for each type: what has no place differs too.
 impl Lists<'_> {
     #[inline]
     pub fn whole(&self, at: usize) -> u64

@@ -24,23 +24,21 @@ fn put_given(given: Option<Point>, wholes: &mut [u64], reals: &mut [f64])
 fn put_plan(plan: Plan, wholes: &mut [u64], reals: &mut [f64])
     ensures { (wholes.new ≡ Numbers.wholes_plan plan wholes.old) × (reals.new ≡ Numbers.reals_plan plan reals.old) }
 {
-    let start = plan.start;
     put(wholes, 0, plan.n as u64);
     put(wholes, 1, plan.t as u64);
     put(wholes, 2, plan.limit as u64);
     put(wholes, 3, plan.room as u64);
     put(reals, 0, plan.tolerance);
     put(reals, 1, plan.step);
-    put_given(start, wholes, reals);
+    put_given(plan.start, wholes, reals);
 }
 
 #[tactic(auto, unfolding(crate::specs::Numbers::wholes_walk, crate::specs::Numbers::reals_walk))]
 fn put_walk(walk: Walk, wholes: &mut [u64], reals: &mut [f64])
     ensures { (wholes.new ≡ Numbers.wholes_walk walk wholes.old) × (reals.new ≡ Numbers.reals_walk walk reals.old) }
 {
-    let p = walk.position;
-    put(reals, 5, p.x);
-    put(reals, 6, p.y);
+    put(reals, 5, walk.position.x);
+    put(reals, 6, walk.position.y);
     put(wholes, 8, walk.triangle as u64);
     put(wholes, 9, walk.edge as u64);
     put(wholes, 10, walk.points as u64);
@@ -51,12 +49,11 @@ fn put_walk(walk: Walk, wholes: &mut [u64], reals: &mut [f64])
 fn put_stand(stand: Stand, wholes: &mut [u64], reals: &mut [f64])
     ensures { (wholes.new ≡ Numbers.wholes_stand stand wholes.old) × (reals.new ≡ Numbers.reals_stand stand reals.old) }
 {
-    let walk = stand.walk;
     put(wholes, 5, stand.place as u64);
     put(reals, 4, stand.rs);
     put(wholes, 6, stand.norms as u64);
     put(wholes, 7, stand.end as u64);
-    put_walk(walk, wholes, reals);
+    put_walk(stand.walk, wholes, reals);
     put(wholes, 12, stand.crossings as u64);
 }
 
@@ -78,11 +75,8 @@ fn put_mark(mark: Option<Kept>, wholes: &mut [u64], reals: &mut [f64])
 pub fn put_run(run: Run, wholes: &mut [u64], reals: &mut [f64])
     ensures { (wholes.new ≡ Numbers.wholes_run run wholes.old) × (reals.new ≡ Numbers.reals_run run reals.old) }
 {
-    let plan = run.plan;
-    let stand = run.stand;
-    let mark = run.mark;
-    put_plan(plan, wholes, reals);
-    put_stand(stand, wholes, reals);
-    put_mark(mark, wholes, reals);
+    put_plan(run.plan, wholes, reals);
+    put_stand(run.stand, wholes, reals);
+    put_mark(run.mark, wholes, reals);
     put(wholes, 16, run.passes);
 }

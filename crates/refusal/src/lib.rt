@@ -57,6 +57,7 @@ impl fmt::Display for Refusal {
     }
 }
 
+// For a caller whose own errors are any type's: `?` makes a `Box<dyn Error>` or an `anyhow::Error` of a refusal.
 impl Error for Refusal {}
 
 ghost use Rattle.refusal.specs.Refusal.{fault};

@@ -1,4 +1,5 @@
 // The limits of the printing program: sheets that use their bytes or places to the last, and sheets of one more. Prints the first line of each text, and how many bytes the text has.
+// Large arrays stand in functions of their own: beside one another in one function a check can run out of stack.
 #![tactic(auto)]
 
 use format::{Content, Settings};

@@ -23,6 +23,7 @@ fn replay<R, F: Fn(&R) -> bool>(
     Ok(agree == all)
 }
 
+// A count is a pattern by `as`: no `From` makes a u64 of a usize.
 fn replay_numbers(rt: &impl Print) -> io::Result<bool> {
     let mut all = replay(
         rt,

@@ -2,6 +2,7 @@
 ghost use Rattle.std.specs.Prelude.{◌<◌, ◌≤◌, length};
 
 use plane::Point;
+pub use std::num::f64_from_bits_with_nan as number;
 
 // The rows of a table, of N patterns each.
 pub fn rows_of<const N: usize>(table: &[u64]) -> &[[u64; N]]
@@ -25,11 +26,6 @@ pub fn agreeing<R, F: Fn(&R) -> bool>(rows: &[R], agrees: F) -> usize
     agree
 }
 
-// The number of a pattern.
-pub fn number(pattern: u64) -> f64 {
-    std::num::f64_from_bits_with_nan(pattern)
-}
-
 // Whether a number has the pattern, with one for every NaN.
 pub fn is(x: f64, expected: u64) -> bool {
     std::num::f64_to_bits_with_nan(x) == expected
@@ -50,7 +46,7 @@ pub fn point_in_triangle_agrees(row: &[u64; 9]) -> bool {
         point(bx, by),
         point(cx, cy),
     );
-    inside as u64 == expected
+    u64::from(inside) == expected
 }
 
 // A hit is 1 and the point's two numbers, none is 0.

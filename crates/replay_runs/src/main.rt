@@ -6,77 +6,63 @@
 mod digest;
 mod lines;
 
-ghost use Rattle.std.specs.Prelude.{◌≡◌, ◌≤◌, IfOk, length};
+ghost use Rattle.std.specs.Prelude.{◌≡◌, length};
 
 use std::io;
 
-// The numbers of the calls; 0 beyond them.
-fn read_calls(bytes: &[u8], calls: &mut [u32]) {
-    for (i, number) in calls.iter_mut().enumerate() {
-        *number = sheet::items::corner(bytes, i);
-    }
-}
-
-// On buffers that suffice for small sheets.
-fn replay(rt: &impl Print, sheet: &[u8], calls: &[u32], count: usize) -> io::Result<()> {
+// On buffers that suffice for small sheets; at most 40 calls.
+fn replay(rt: &impl Print, sheet: &[u8], calls: &[u32]) -> io::Result<()> {
     let mut said = [0u32; 40];
+    let Some(said) = said.get_mut(..calls.len() / 6) else {
+        return Ok(());
+    };
     let mut floats = [0.0; 4096];
     let mut words = [0u32; 4096];
     let mut path = [0.0; 1024];
-    match run::replay(sheet, calls, &mut said, &mut floats, &mut words, &mut path) {
-        Ok(run) => lines::opened(rt, run, &said, count, &floats, &path),
+    match run::replay(sheet, calls, said, &mut floats, &mut words, &mut path) {
+        Ok(run) => lines::opened(rt, run, said, &floats, &path),
         Err(refusal) => lines::refused(rt, refusal),
     }
 }
 
-// At most 40 calls.
-fn replay_calls(rt: &impl Print, sheet: &[u8], calls: &[u32], count: usize) -> io::Result<()> {
-    if 40 < count {
-        return Ok(());
-    }
-    let Some(numbers) = calls.get(..6 * count) else {
+// The calls by their bytes; at most 240 numbers.
+fn replay_one(rt: &impl Print, sheet: &[u8], bytes: &[u8]) -> io::Result<()> {
+    let (numbers, _) = bytes.as_chunks::<4>();
+    let mut calls = [0u32; 240];
+    let Some(calls) = calls.get_mut(..numbers.len()) else {
         return Ok(());
     };
-    replay(rt, sheet, numbers, count)
+    for (call, number) in calls.iter_mut().zip(numbers) {
+        *call = u32::from_le_bytes(*number);
+    }
+    replay(rt, sheet, calls)
 }
 
-fn replay_one(rt: &impl Print, sheet: &[u8], bytes: &[u8], count: usize) -> io::Result<()> {
-    let mut calls = [0u32; 240];
-    read_calls(bytes, &mut calls);
-    replay_calls(rt, sheet, &calls, count)
+// The number at the front of the input, and what stands behind it.
+fn number(input: &[u8]) -> Option<(u32, &[u8])> {
+    let (bytes, rest) = input.split_first_chunk::<4>()?;
+    Some((u32::from_le_bytes(*bytes), rest))
 }
 
-fn size(x: u32) -> usize {
-    x as usize
-}
-
-// The sheet at the front of the input and its calls. Answers how many bytes they take: 0 where the input ends before they do.
-fn next(rt: &impl Print, input: &[u8]) -> io::Result<usize>
-    ensures { IfOk result (λ taken. taken ≤ length input.now) }
-{
-    let bytes = size(sheet::items::corner(input, 0));
-    if input.len() < 8 {
-        return Ok(0);
-    }
-    if input.len() - 8 < bytes {
-        return Ok(0);
-    }
-    let from = bytes + 4;
-    let count = size(sheet::items::corner(&input[from..], 0));
-    let calls = bytes + 8;
-    if (input.len() - calls) / 24 < count {
-        return Ok(0);
-    }
-    let end = calls + 24 * count;
-    replay_one(rt, &input[4..from], &input[calls..end], count)?;
-    Ok(end)
+// The bytes of the sheet at the front of the input, those of its calls, and what stands behind them; none where the input ends before they do.
+// By `as`: no `From` makes a usize of a u32.
+fn first(input: &[u8]) -> Option<(&[u8], &[u8], &[u8])> {
+    let (size, rest) = number(input)?;
+    let (sheet, rest) = rest.split_at_checked(size as usize)?;
+    let (count, rest) = number(rest)?;
+    let (calls, rest) = rest.split_at_checked(24 * count as usize)?;
+    Some((sheet, calls, rest))
 }
 
 // At most 1,000 sheets.
 fn replay_all(rt: &impl Print, input: &[u8]) -> io::Result<()> {
-    let mut at: usize = 0;
-    for i in 0..1000usize {
-        at += next(rt, &input[at..])?;
+    let mut rest = input;
+    for _ in 0..1000 {
+        let Some((sheet, calls, behind)) = first(rest) else {
+            return Ok(());
+        };
+        replay_one(rt, sheet, calls)?;
+        rest = behind;
     }
     Ok(())
 }

@@ -1,9 +1,10 @@
-// Whether the writer answers as a list's rows say. A row is the answer, 0 where the content is written, two numbers that the base is spoiled by, and the space.
+// Whether the writer answers as a list's rows say. A row is the answer, 0 where the content is written, two numbers that the base is spoiled by, and the space. All are numbers of the table, answers too.
 use crate::sheets::{Counts, SPACE};
 use crate::tables::BASE;
 use format::{Content, Settings};
 use refusal::Refusal;
 use sheet::{Header, items};
+use std::array::from_fn;
 
 // The numbers that a content is spoiled by, 0 for none.
 #[derive(Clone, Copy)]
@@ -12,12 +13,6 @@ struct Spoiling([u32; 2]);
 impl Spoiling {
     fn has(&self, number: u32) -> bool {
         self.0.contains(&number)
-    }
-}
-
-pub fn copy(from: &[u8], out: &mut [u8]) {
-    for (place, byte) in out.iter_mut().zip(from) {
-        *place = *byte;
     }
 }
 
@@ -47,28 +42,12 @@ fn triangle_of(section: &[u8]) -> [u32; 3] {
     [corners.a, corners.b, corners.c]
 }
 
-fn neighbours_of(section: &[u8]) -> [u32; 3] {
-    [
-        items::neighbour(section, 0),
-        items::neighbour(section, 1),
-        items::neighbour(section, 2),
-    ]
-}
-
-fn tags_of(section: &[u8]) -> [u8; 3] {
-    [
-        items::tag(section, 0),
-        items::tag(section, 1),
-        items::tag(section, 2),
-    ]
-}
-
 fn lists_of(sheet: &[u8], header: Header) -> Lists {
     Lists {
         vertices: vertices_of(part(sheet, header.vertices)),
         triangles: triangle_of(part(sheet, header.triangles)),
-        neighbours: neighbours_of(part(sheet, header.neighbours)),
-        tags: tags_of(part(sheet, header.tags)),
+        neighbours: from_fn(|i| items::neighbour(part(sheet, header.neighbours), i)),
+        tags: from_fn(|i| items::tag(part(sheet, header.tags), i)),
     }
 }
 
@@ -142,10 +121,9 @@ fn write(
 pub fn is_written_again(sheet: &[u8], header: Header) -> bool {
     let mut out = [0u8; SPACE];
     let written = write(sheet, header, Spoiling([0, 0]), &mut out, sheet.len());
-    match written {
-        Some(Ok(k)) => k == sheet.len() && out.starts_with(sheet),
-        Some(Err(_)) | None => false,
-    }
+    written
+        .and_then(|size| size.ok())
+        .is_some_and(|size| size == sheet.len() && out.starts_with(sheet))
 }
 
 // Whether the base is answered so. A buffer that nothing is written to has to be as it was, and so has what is behind the sheet.
@@ -155,7 +133,7 @@ fn is_answered(answer: u32, header: Header, by: Spoiling, space: usize) -> bool 
     match write(&BASE, header, by, &mut out, space) {
         Some(Err(refusal)) => refusal.number() == answer && out == expected,
         Some(Ok(k)) => {
-            copy(&BASE, &mut expected);
+            expected[..BASE.len()].copy_from_slice(&BASE);
             answer == 0 && k == BASE.len() && out == expected
         }
         None => false,
@@ -163,10 +141,9 @@ fn is_answered(answer: u32, header: Header, by: Spoiling, space: usize) -> bool 
 }
 
 fn agrees(row: &[u32; 4]) -> bool {
-    match sheet::check_sheet(&BASE) {
-        Ok(header) => is_answered(row[0], header, Spoiling([row[1], row[2]]), row[3] as usize),
-        Err(_) => false,
-    }
+    sheet::check_sheet(&BASE).is_ok_and(|header| {
+        is_answered(row[0], header, Spoiling([row[1], row[2]]), row[3] as usize)
+    })
 }
 
 // How many rows have this answer, and how many of them agree.

@@ -1,4 +1,4 @@
-// Whether the reader answers as a list's rows say. A row is the answer, 0 where the sheet is accepted, the sheet's length, how many changes of the base there are, and each change.
+// Whether the reader answers as a list's rows say. A row is the answer, 0 where the sheet is accepted, the sheet's length, how many changes of the base there are, and each change. All are numbers of the table, answers too.
 ghost use Rattle.std.specs.Prelude.{length};
 ghost use Rattle.std.specs.Iterator.{at_most};
 
@@ -62,16 +62,14 @@ fn is_answered(sheet: &[u8], answer: u32) -> bool {
 }
 
 fn agrees(row: Row) -> bool {
-    let mut sheet = [0u8; SPACE];
-    contents::copy(&BASE, &mut sheet);
     let Some(changes) = row.changes else {
         return false;
     };
+    let mut sheet = [0u8; SPACE];
+    sheet[..BASE.len()].copy_from_slice(&BASE);
     put_changes(&mut sheet, changes);
-    match sheet.get(..row.length) {
-        Some(front) => is_answered(front, row.answer),
-        None => false,
-    }
+    let front = sheet.get(..row.length);
+    front.is_some_and(|front| is_answered(front, row.answer))
 }
 
 pub fn replayed(table: &[u32], answer: u32) -> Counts {

@@ -1,4 +1,6 @@
-// The right side: what the held vertices push on the free ones, and their own values.
+// The right side: what the held vertices push on the free ones, and their own values. Vertex numbers and tags are words of the lent lists: an index is widened by `as usize`, and a vertex whose
+// tag is none of the three is held at 0, as the definitions say. The numbers, the tags or the mesh, and a triangle are parameters: a struct round the numbers would carry their length, and owe in
+// each function a clause that it lends the same ones.
 #![tactic(auto)]
 
 ghost use Rattle.std.specs.Prelude.{◌≡◌, ◌<◌, length};
@@ -7,16 +9,18 @@ ghost use Rattle.laplace.specs.Mesh.{held_value};
 ghost use Rattle.laplace.specs.Assembly as Assembly;
 ghost use Rattle.laplace.specs.Element as Element;
 ghost use Rattle.laplace.specs.Element.{Within};
-ghost use Rattle.laplace.specs.Elements.{IsMesh, pushes_of};
+ghost use Rattle.laplace.specs.Elements.{AreElements, pushes_of};
 ghost use Rattle.laplace.specs.Right as Right;
 
 use laplace::element::{Elements, Side, Stiff, Triangle};
+use mesh::{FREE, OUTER};
 
 // The value at which a tag holds a vertex.
+#[tactic(auto, unfolding(mesh::specs::Mesh::held_value))]
 pub fn held_value(tag: u32) -> f64
     ensures { result ≡ held_value tag }
 {
-    if tag == 1 {
+    if tag == OUTER {
         return 1.0;
     }
     0.0
@@ -40,9 +44,9 @@ fn couple(right: &mut [f64], tags: &[u32], i: u32, j: u32, v: f64)
     let p = i as usize;
     let q = j as usize;
     match (tags[p], tags[q]) {
-        (0, 0) => {}
-        (0, tag) => right[p] = lowered(right[p], v, tag),
-        (tag, 0) => right[q] = lowered(right[q], v, tag),
+        (FREE, FREE) => {}
+        (FREE, tag) => right[p] = lowered(right[p], v, tag),
+        (tag, FREE) => right[q] = lowered(right[q], v, tag),
         _ => {}
     }
 }
@@ -72,14 +76,14 @@ fn is_free(tags: &[u32], q: Triangle) -> bool
     requires { Within (length tags.now) q }
     ensures { result ≡ Right.all_free tags.now q }
 {
-    // Without a branch; of `all` over the three the proof did not close.
+    // Without a branch: all three are read and compared.
     let (i, j, k) = (tags[q.i as usize], tags[q.j as usize], tags[q.k as usize]);
-    (i == 0) & (j == 0) & (k == 0)
+    (i == FREE) & (j == FREE) & (k == FREE)
 }
 
 // Those of the triangle q of the mesh: nothing where its corners are free, or where it is skipped.
 fn couple_triangle(right: &mut [f64], mesh: &Elements, q: Triangle)
-    requires { IsMesh mesh.now × Within (length mesh.now.tags.now) q × (length right.old ≡ length mesh.now.tags.now) }
+    requires { AreElements mesh.now × Within (length mesh.now.tags.now) q × (length right.old ≡ length mesh.now.tags.now) }
     ensures { right.new ≡ Assembly.all_coupled held_value mesh.now.tags.now (Right.stiff_pushes q (Element.stiff_in mesh.now.flat mesh.now.vertices.now q)) right.old }
 {
     if is_free(mesh.tags, q) {
@@ -92,7 +96,7 @@ fn couple_triangle(right: &mut [f64], mesh: &Elements, q: Triangle)
 
 // Those of all triangles.
 fn couple_all(right: &mut [f64], mesh: &Elements)
-    requires { IsMesh mesh.now × (length right.old ≡ length mesh.now.tags.now) }
+    requires { AreElements mesh.now × (length right.old ≡ length mesh.now.tags.now) }
     ensures { right.new ≡ Assembly.all_coupled held_value mesh.now.tags.now (pushes_of mesh.now) right.old }
 {
     // By number, since a mesh gives its triangles by their numbers.
@@ -103,10 +107,11 @@ fn couple_all(right: &mut [f64], mesh: &Elements)
 }
 
 // The number of a free vertex, and the value of a held one.
+#[tactic(auto, unfolding(laplace::specs::Right::settled_value))]
 fn settled_value(tag: u32, y: f64) -> f64
     ensures { result ≡ Right.settled_value tag y }
 {
-    if tag == 0 {
+    if tag == FREE {
         return y;
     }
     held_value(tag)
@@ -117,15 +122,15 @@ fn settle(right: &mut [f64], tags: &[u32])
     requires { length right.old ≡ length tags.now }
     ensures { right.new ≡ Assembly.settled held_value tags.now right.old }
 {
-    // By index: of what a zip with `iter_mut` writes a proof knows nothing.
-    for (i, &tag) in tags.iter().enumerate() {
-        right[i] = settled_value(tag, right[i]);
+    for (i, value) in right.iter_mut().enumerate() {
+        *value = settled_value(tags[i], *value);
     }
 }
 
 // The whole right side.
+#[tactic(auto, unfolding(laplace::specs::Assembly::right_side))]
 pub fn right_side(right: &mut [f64], mesh: &Elements)
-    requires { IsMesh mesh.now × (length right.old ≡ length mesh.now.tags.now) }
+    requires { AreElements mesh.now × (length right.old ≡ length mesh.now.tags.now) }
     ensures { right.new ≡ Assembly.right_side held_value mesh.now.tags.now (pushes_of mesh.now) (length mesh.now.tags.now) }
 {
     right.fill(0.0);

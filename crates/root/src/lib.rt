@@ -1,6 +1,7 @@
 // The square root of an f64 (IEEE 754-2019, 5.4.1): a guess in floats, returned where a remainder
 // shows that it is the root. Elsewhere the root is found on bit patterns, from the guess by a
-// remainder, or digit by digit.
+// remainder, or digit by digit. Operand, exponent and significand stay plain numbers, each function asking
+// what it needs: structs of them would be made for one call and taken apart in it.
 // `root` is the definition; the double that it gives is the nearest one (specs/RootTheorems.antt).
 #![tactic(auto)]
 
@@ -167,7 +168,7 @@ fn root_of_subnormal(digits: u64) -> u64
     ensures { result ≡ root_of 0 digits }
 {
     let z = digits.leading_zeros() - 11;
-    root_pattern(1024 - z as u64, digits << z, 0)
+    root_pattern(1024 - u64::from(z), digits << z, 0)
 }
 
 fn root_of_ordinary(field: u64, digits: u64, guessed: u64) -> u64

@@ -2,11 +2,10 @@
 use Rattle.std.specs.Prelude.{ℕ, ◌≡◌, List}
 use Rattle.sparse.specs.Sparse.{Entry}
 use Rattle.laplace.specs.declared.element.Elements.{Elements}
-use Rattle.laplace.specs.Row.{entries_in, Written, Building, Linked}
+use Rattle.laplace.specs.Row.{entries_in, Written, Building}
 use Rattle.rows.specs.declared.row.Row.{Row}
 use Rattle.laplace.specs.Rows.{Ready, RowPut, RowsPut}
-use Rattle.rows.specs.declared.row.Corners.{Corners}
-use Rattle.rows.specs.declared.matrix.Matrix.{Matrix}
+use Rattle.rows.specs.declared.matrix.Builder.{Builder}
 
 abbrev pub entries_of : Row → List Entry
 entries_of r = entries_in r.values.now r.cols.now r.count
@@ -23,22 +22,19 @@ Writes old new es = Written old.values.now old.cols.now new.values.now new.cols.
 abbrev pub IsBuilt : Elements → Row → Type 0
 IsBuilt e r = Building e r.values.now r.cols.now r.count
 
-abbrev pub AreLinked : Elements → Corners → Type 0
-AreLinked e c = Linked e c.heads.now c.links.now
-
 -- it lends the same three stretches
-pub record SameMatrix (old new : Matrix) : Type 0 where
+pub record SameBuilder (old new : Builder) : Type 0 where
   pub starts : new.starts.ghost_name ≡ old.starts.ghost_name
   pub cols : new.cols.ghost_name ≡ old.cols.ghost_name
   pub values : new.values.ghost_name ≡ old.values.ghost_name
 
 -- the row that is built is clear and empty, and the matrix has room
-pub record IsReady (e : Elements) (c : Corners) (r : Row) (m : Matrix) : Type 0 where
-  pub ready : Ready e c.heads.now c.links.now r.values.now r.cols.now m.starts.now m.cols.now m.values.now
+pub record IsReady (e : Elements) (r : Row) (m : Builder) : Type 0 where
+  pub ready : Ready e r.values.now r.cols.now m.starts.now m.cols.now m.values.now
   pub empty : r.count ≡ 0
 
-abbrev pub PutsRow : Matrix → Matrix → ℕ → List Entry → Type 0
+abbrev pub PutsRow : Builder → Builder → ℕ → List Entry → Type 0
 PutsRow old new r es = RowPut old.starts.now old.cols.now old.values.now new.starts.now new.cols.now new.values.now r old.count new.count es
 
-abbrev pub PutsRows : Matrix → Matrix → List (List Entry) → Type 0
+abbrev pub PutsRows : Builder → Builder → List (List Entry) → Type 0
 PutsRows old new rs = RowsPut old.starts.now old.cols.now old.values.now new.starts.now new.cols.now new.values.now new.count rs

@@ -1,27 +1,26 @@
-// The matrix: each row is built in a row and put behind the rows before it.
+// The matrix: each row is built in a row and put behind the rows before it. Row starts are words of the lent lists.
 ghost use Rattle.std.specs.Prelude.{◌≡◌, ◌+◌, ◌<◌, ◌≤◌, length, replicate, take};
 ghost use Rattle.binary64.specs.Constants.{plus_zero};
 ghost use Rattle.stretch.specs.Stretch.{splice};
 ghost use Rattle.laplace.specs.Rows as Rows;
-ghost use Rattle.rows.specs.Buffers.{SameRow, SameMatrix, IsReady, PutsRow, PutsRows};
+ghost use Rattle.rows.specs.Buffers.{SameRow, SameBuilder, IsReady, PutsRow, PutsRows};
 
 use crate::row::{Corners, Row};
-use laplace::element::Elements;
 
-// The rows that are put down: where each starts among the entries, and the columns and the values of the `count` entries.
+// A matrix that is built, row behind row: where each row starts among the entries, and the columns and the values of the `count` entries.
 #[derive(Drop)]
-pub struct Matrix<'a> {
+pub struct Builder<'a> {
     pub starts: &'a mut [u32],
     pub cols: &'a mut [u32],
     pub values: &'a mut [f64],
     pub count: usize,
 }
 
-impl Matrix<'_> {
+impl Builder<'_> {
     // The entries of a row, put behind the others; the row is clear then.
     fn append(&mut self, row: &mut Row)
-        requires { Rows.Appends (length row.old.values.now) (length row.old.cols.now) (length self.old.values.now) (length self.old.cols.now) row.old.count self.old.count }
-        ensures same { SameMatrix self.old self.new × SameRow row.old row.new }
+        requires { Rows.Appends (length self.old.values.now) (length self.old.cols.now) row.old.count self.old.count }
+        ensures same { SameBuilder self.old self.new × SameRow row.old row.new }
         ensures values { self.new.values.now ≡ splice self.old.values.now self.old.count (take row.old.count row.old.values.now) }
         ensures cols { self.new.cols.now ≡ splice self.old.cols.now self.old.count (take row.old.count row.old.cols.now) }
         ensures count { self.new.count ≡ self.old.count + row.old.count }
@@ -37,28 +36,28 @@ impl Matrix<'_> {
     }
 
     // Row r put behind the others.
-    fn put_row(&mut self, row: &mut Row, mesh: &Elements, corners: Corners, r: usize)
-        requires { IsReady mesh.now corners row.old self.old × (r < length mesh.now.tags.now) × (self.old.count + length (Rows.row_of mesh.now r) ≤ Rows.room_of mesh.now) }
-        ensures same { SameMatrix self.old self.new × SameRow row.old row.new }
+    fn put_row(&mut self, row: &mut Row, corners: &Corners, r: usize)
+        requires { IsReady corners.now.mesh row.old self.old × (r < length corners.now.mesh.tags.now) × (self.old.count + length (Rows.row_of corners.now.mesh r) ≤ Rows.room_of corners.now.mesh) }
+        ensures same { SameBuilder self.old self.new × SameRow row.old row.new }
         ensures row { (row.new.values.now ≡ row.old.values.now) × (row.new.cols.now ≡ row.old.cols.now) × (row.new.count ≡ 0) }
-        ensures put { PutsRow self.old self.new r (Rows.row_of mesh.now r) }
+        ensures put { PutsRow self.old self.new r (Rows.row_of corners.now.mesh r) }
     {
-        row.fill(mesh, corners, r);
+        row.fill(corners, r);
         self.append(row);
         self.starts[r + 1] = self.count as u32;
     }
 
     // All rows, into an empty matrix.
-    pub fn fill(&mut self, row: &mut Row, mesh: &Elements, corners: Corners)
-        requires { IsReady mesh.now corners row.old self.old × (self.old.count ≡ 0) }
-        ensures same { SameMatrix self.old self.new × SameRow row.old row.new }
+    pub fn fill(&mut self, row: &mut Row, corners: &Corners)
+        requires { IsReady corners.now.mesh row.old self.old × (self.old.count ≡ 0) }
+        ensures same { SameBuilder self.old self.new × SameRow row.old row.new }
         ensures row { (row.new.values.now ≡ row.old.values.now) × (row.new.cols.now ≡ row.old.cols.now) × (row.new.count ≡ 0) }
-        ensures put { PutsRows self.old self.new (Rows.rows_of mesh.now (length mesh.now.tags.now)) }
+        ensures put { PutsRows self.old self.new (Rows.rows_of corners.now.mesh (length corners.now.mesh.tags.now)) }
     {
         self.starts[0] = 0;
         // By number, since a row is built for a vertex's number.
-        for r in 0..mesh.tags.len() {
-            self.put_row(row, mesh, corners, r);
+        for r in 0..corners.mesh.tags.len() {
+            self.put_row(row, corners, r);
         }
     }
 }

@@ -1,29 +1,29 @@
-// One row of the matrix, built by insertion.
+// One row of the matrix, built by insertion. Vertex numbers, columns, heads and links are words of the lent lists, and an index is widened by `as usize`.
 ghost use Rattle.std.specs.Prelude.{◌≡◌, [], ◌+◌, ◌<◌, ◌≤◌, length, nat_le, position, replicate, slice_set, take};
 ghost use Rattle.std.specs.List.{copy_within};
 ghost use Rattle.binary64.specs.Constants.{plus_zero};
 ghost use Rattle.stretch.specs.Stretch.{splice};
-ghost use Rattle.laplace.specs.Assembly as Assembly;
-ghost use Rattle.laplace.specs.Element.{Within};
-ghost use Rattle.laplace.specs.Elements.{pushes_of};
-ghost use Rattle.laplace.specs.Row as Entries;
-ghost use Rattle.rows.specs.Buffers.{entries_of, IsBuilt, SameRow, Writes, AreLinked};
+ghost use Rattle.laplace.specs.Row.{Linked};
 
 use laplace::element::{Elements, Side, Triangle};
+use mesh::FREE;
 
-// The row that is built: its entries' values and columns at the front of the two, and how many there are.
+// The row that is built: its entries' values and columns at the front of the two, and how many there are. Two lent stretches and a count, since there is no heap.
 #[derive(Drop)]
 pub struct Row<'a> {
     pub values: &'a mut [f64],
     pub cols: &'a mut [u32],
     pub count: usize,
+    pub ghost within: { (count ≤ length values.now) × (count ≤ length cols.now) },
 }
 
-// The corners of each vertex, by heads and links.
+// A mesh and the corners of each vertex of it, by heads and links.
 #[derive(Clone, Copy)]
 pub struct Corners<'a> {
+    pub mesh: Elements<'a>,
     pub heads: &'a [u32],
     pub links: &'a [u32],
+    pub ghost linked: { Linked mesh heads.now links.now },
 }
 
 // Where the first column stands that is j or behind it.
@@ -33,10 +33,16 @@ fn first_from(cols: &[u32], j: u32) -> Option<usize>
     cols.iter().position(|&c| c >= j)
 }
 
+// `IsBuilt` is of a row and a mesh, and no ghost field: between the writes of `open_at` the columns do not rise. An entry's column and value are two parameters, as a triangle and its side hold them.
 impl Row<'_> {
+    ghost use Rattle.laplace.specs.Assembly as Assembly;
+    ghost use Rattle.laplace.specs.Element.{Within};
+    ghost use Rattle.laplace.specs.Elements.{pushes_of};
+    ghost use Rattle.laplace.specs.Row as Entries;
+    ghost use Rattle.rows.specs.Buffers.{entries_of, IsBuilt, SameRow, Writes};
+
     // How many of its columns lie before the column j.
     fn position(&self, j: u32) -> usize
-        requires { self.now.count ≤ length self.now.cols.now }
         ensures { result ≡ Entries.position_of j (take self.now.count self.now.cols.now) }
     {
         first_from(&self.cols[..self.count], j).unwrap_or(self.count)
@@ -44,7 +50,7 @@ impl Row<'_> {
 
     // The value v at the column j: added to the one that stands there, or inserted.
     fn insert(&mut self, j: u32, v: f64)
-        requires { Entries.Room self.old.values.now self.old.cols.now self.old.count (Assembly.insert j v (entries_of self.old)) }
+        requires { Entries.Room self.old.values.now self.old.cols.now (Assembly.insert j v (entries_of self.old)) }
         ensures same { SameRow self.old self.new }
         ensures written { Writes self.old self.new (Assembly.insert j v (entries_of self.old)) }
     {
@@ -78,7 +84,7 @@ impl Row<'_> {
         ensures same { SameRow self.old self.new }
         ensures written { Writes self.old self.new (Entries.placed mesh.now.tags.now j v (entries_of self.old)) }
     {
-        if mesh.tags[j as usize] == 0 {
+        if mesh.tags[j as usize] == FREE {
             self.insert(j, v);
         }
     }
@@ -108,27 +114,27 @@ impl Row<'_> {
     }
 
     // The entries of the free vertex r: those of its corners, in rising order.
-    fn build(&mut self, mesh: &Elements, corners: Corners, r: usize)
-        requires { IsBuilt mesh.now self.old × (self.old.count ≡ 0) × AreLinked mesh.now corners × (r < length mesh.now.tags.now) }
+    fn build(&mut self, corners: &Corners, r: usize)
+        requires { IsBuilt corners.now.mesh self.old × (self.old.count ≡ 0) × (r < length corners.now.mesh.tags.now) }
         ensures same { SameRow self.old self.new }
-        ensures written { Writes self.old self.new (Assembly.inserted mesh.now.tags.now r (pushes_of mesh.now) []) }
+        ensures written { Writes self.old self.new (Assembly.inserted corners.now.mesh.tags.now r (pushes_of corners.now.mesh) []) }
     {
         let mut c = corners.heads[r] as usize;
         // A linked list in lent memory, along which no iterator of the library goes.
         while 0 < c {
-            self.add_corner(mesh, c - 1);
+            self.add_corner(&corners.mesh, c - 1);
             c = corners.links[c - 1] as usize;
         }
     }
 
     // The row of vertex r: a held one has the lone entry 1.
-    pub(crate) fn fill(&mut self, mesh: &Elements, corners: Corners, r: usize)
-        requires { IsBuilt mesh.now self.old × (self.old.count ≡ 0) × AreLinked mesh.now corners × (r < length mesh.now.tags.now) }
+    pub(crate) fn fill(&mut self, corners: &Corners, r: usize)
+        requires { IsBuilt corners.now.mesh self.old × (self.old.count ≡ 0) × (r < length corners.now.mesh.tags.now) }
         ensures same { SameRow self.old self.new }
-        ensures written { Writes self.old self.new (Assembly.row mesh.now.tags.now (pushes_of mesh.now) r) }
+        ensures written { Writes self.old self.new (Assembly.row corners.now.mesh.tags.now (pushes_of corners.now.mesh) r) }
     {
-        if mesh.tags[r] == 0 {
-            self.build(mesh, corners, r);
+        if corners.mesh.tags[r] == FREE {
+            self.build(corners, r);
             return;
         }
         self.values[0] = 1.0;
@@ -138,7 +144,6 @@ impl Row<'_> {
 
     // The values and the columns of its entries.
     pub(crate) fn entries(&self) -> (&[f64], &[u32])
-        requires { (self.now.count ≤ length self.now.values.now) × (self.now.count ≤ length self.now.cols.now) }
         ensures values { result.0.now ≡ take self.now.count self.now.values.now }
         ensures cols { result.1.now ≡ take self.now.count self.now.cols.now }
     {
@@ -147,7 +152,6 @@ impl Row<'_> {
 
     // Zeros in place of its entries.
     pub(crate) fn clear(&mut self)
-        requires { (self.old.count ≤ length self.old.values.now) × (self.old.count ≤ length self.old.cols.now) }
         ensures same { SameRow self.old self.new }
         ensures values { self.new.values.now ≡ splice self.old.values.now 0 (replicate self.old.count plus_zero) }
         ensures cols { self.new.cols.now ≡ splice self.old.cols.now 0 (replicate self.old.count 0) }

@@ -1,5 +1,5 @@
-// A list of calls written as numbers, made one after the other from place 0.
-ghost use Rattle.std.specs.Prelude.{◌≡◌, ◌+◌, ◌*◌, ◌≤◌, length};
+// A list of calls written as numbers, made one after the other from place 0. The three lent buffers are three parameters: `&` and `&mut` say which of them a function writes, and a call is lent a front of each.
+ghost use Rattle.std.specs.Prelude.{◌≡◌};
 ghost use Rattle.work.specs.Record.{no_run};
 ghost use Rattle.image.specs.Call.{machine_call};
 ghost use Rattle.image.specs.Calls.{buffers, answer_of, Does};
@@ -9,6 +9,7 @@ use image::Call;
 use refusal::Refusal;
 use work::Run;
 
+// Which call is made is known when its numbers are read, so that a `match` on it is the plain form.
 pub fn perform(
     run: Run,
     call: Call,
@@ -26,29 +27,25 @@ pub fn perform(
     }
 }
 
-// Call i, lent the front of each buffer that its numbers say.
+// A call of six numbers, lent the front of each buffer that they say. `as usize`: a u32 is no `Into<usize>`.
 fn turn(
     run: Run,
-    calls: &[u32],
-    i: usize,
+    numbers: &[u32; 6],
     floats: &mut [f64],
     words: &[u32],
     path: &mut [f64],
 ) -> Result<Run, Refusal>
-    requires { 6 * i + 6 ≤ length calls.now }
-    ensures { Turned (lent_at calls.now i) run (buffers floats.old words.now path.old) (answer_of run result) (buffers floats.new words.now path.new) }
+    ensures { Turned (lent_at numbers.now 0) run (buffers floats.old words.now path.old) (answer_of run result) (buffers floats.new words.now path.new) }
 {
-    let at = 6 * i;
-    let kind = calls[at];
-    let k = calls[at + 1];
-    let f = gate::least(calls[at + 3] as usize, floats.len());
-    let w = gate::least(calls[at + 4] as usize, words.len());
-    let p = gate::least(calls[at + 5] as usize, path.len());
+    let &[kind, k, _, f, w, p] = numbers;
+    let f = (f as usize).min(floats.len());
+    let w = (w as usize).min(words.len());
+    let p = (p as usize).min(path.len());
     let call = Call::from((kind, k));
     perform(run, call, &mut floats[..f], &words[..w], &mut path[..p])
 }
 
-// A list of calls, six numbers each: kind, k, one that no call takes yet, and how many floats, words and places of the path are lent. Each call's refusal goes to its place of said.
+// A list of calls, six numbers each: kind, k, one that is not read, and how many floats, words and places of the path are lent. Each call's refusal goes to its place of said, which is found by index: of what a zip with `iter_mut` writes a proof knows nothing.
 pub fn make(
     run: Run,
     calls: &[u32],
@@ -60,9 +57,10 @@ pub fn make(
     ensures { Performs calls.now run said.old (buffers floats.old words.now path.old) result said.new (buffers floats.new words.now path.new) }
 {
     let mut held = run;
-    let count = gate::least(said.len(), calls.len() / 6);
-    for i in 0..count {
-        match turn(held, calls, i, floats, words, path) {
+    let (rows, _) = calls.as_chunks::<6>();
+    let count = said.len().min(rows.len());
+    for (i, numbers) in rows[..count].iter().enumerate() {
+        match turn(held, numbers, floats, words, path) {
             Ok(next) => {
                 said[i] = 0;
                 held = next;

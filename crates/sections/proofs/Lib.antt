@@ -1,4 +1,3 @@
-pub mod Heads
-pub mod Reading
 pub mod Scan
+pub mod Reading
 pub mod Steps

@@ -1,5 +1,5 @@
 -- The loop over the items of section 5: what is left to do from here is what was to do at the start. Assumes nothing.
-use Prim.Native.Nat.{ℕ, zero, suc, ◌+◌, ◌*◌, ◌/◌, ◌≤◌, ◌<◌}
+use Prim.Native.Nat.{ℕ, zero, suc, ◌+◌, ◌-◌, ◌*◌, ◌/◌, ◌≤◌, ◌<◌}
 use mathlib.Core.Path.{◌≡◌, refl, sym, ap, ap₂, ◌∙◌}
 use mathlib.Core.List.{List, [], ◌∷◌, map}
 use native.Mathlib.Nat.{le_of_suc-le-suc}
@@ -70,6 +70,13 @@ pub record Item (items : List (List ℕ)) (i kind value : ℕ) : Type 0 where
   pub small : kind < 256
   pub first : kind ≡ get_or (get_or items i []) 0 0
   pub rest : value ≡ number 8 (drop 1 (get_or items i []))
+
+-- nine bytes taken apart: the first, and the eight behind it
+pub taken_apart : (items : List (List ℕ)) (i : ℕ) (eight : List ℕ) (value : ℕ) → i < length items → get_or (get_or items i []) 0 0 < 256 → length (get_or items i []) ≡ 9
+    → eight ≡ drop (length (get_or items i []) - 8) (get_or items i []) → value ≡ number 8 eight → Item items i (get_or (get_or items i []) 0 0) value
+taken_apart items i eight value below small nine behind read =
+    let o : length (get_or items i []) - 8 ≡ 1 = omega arith in
+    record { below = below; small = small; first = refl; rest = read ∙ ap (number 8) (behind ∙ ap (λ (k : ℕ). drop k (get_or items i [])) o) }
 
 front : (items : List (List ℕ)) (i : ℕ) → i < length items → drop i (map (number 9) items) ≡ number 9 (get_or items i []) ∷ drop (suc i) (map (number 9) items)
 front [] i h = absurd (omega arith)

@@ -1,16 +1,36 @@
 -- The steps of a sheet's check: what refuses sections 1 to 4, and what section 5 answers (document 01, section Sheet). Definitions only.
 -- Assumes nothing.
-use Rattle.std.specs.Prelude.{ℕ, zero, suc, ◌&&◌, List, map, leb, Result, Ok, Err}
-use Rattle.binary64.specs.Number.{pick}
+use Rattle.std.specs.Prelude.{ℕ, zero, suc, ◌≤◌, ◌≡◌, List, map, Result, Ok, Err}
 use Rattle.refusal.specs.Refusal.{number_of}
 use Rattle.refusal.specs.declared.Refusal.{Refusal}
 use Rattle.format.specs.declared.Settings.{Settings}
-use Rattle.format.specs.Refusal.{◌then◌}
-use Rattle.format.specs.Sheet.{item_setting, in_turn, no_settings, gathered, count, from2, from3, from4, items_in, vertices_fault, triangles_fault, neighbours_fault, tags_fault, settings_fault}
+use Rattle.format.specs.Content.{max_vertices, max_triangles}
+use Rattle.format.specs.Refusal.{◌then◌, over, unlike}
+use Rattle.format.specs.Sheet.{item_setting, in_turn, no_settings, gathered, count, behind, from2, from3, from4, from5, items_in, vertices_fault, triangles_fault, neighbours_fault, tags_fault, settings_fault}
+use Rattle.sections.specs.declared.Rule.{Rule}
+use Rattle.sections.specs.declared.Rule.TheVariants.{AtMost, Exactly}
+use Rattle.sections.specs.declared.Section.{Section}
+use Rattle.sections.specs.declared.Mesh.{Mesh}
 
--- a count outside its range is refused by k
-abbrev pub within : ℕ → ℕ → ℕ → ℕ → ℕ
-within low high k n = pick (leb low n && leb n high) 0 k
+-- ---- a section
+
+-- what refuses a count
+abbrev pub rule_of : Rule → ℕ → ℕ
+rule_of (AtMost limit) k = over limit k
+rule_of (Exactly expected) k = unlike expected k
+
+-- the greatest count that is not refused
+abbrev pub most : Rule → ℕ
+most (AtMost limit) = limit
+most (Exactly expected) = expected
+
+-- what a section of items of `size` bytes hands on: its count, and the sheet behind it
+pub record Follows (high size : ℕ) (s : List ℕ) (r : Section) : Type 0 where
+  pub counted : r.count ≡ count s
+  pub few : r.count ≤ high
+  pub next : r.behind.now ≡ behind size s
+
+-- ---- sections 1 to 4
 
 unfoldable pub mesh_fault : List ℕ → ℕ
 mesh_fault b =
@@ -19,7 +39,17 @@ mesh_fault b =
     then neighbours_fault (count (from2 b)) (from3 b)
     then tags_fault (count b) (from4 b)
 
--- the settings of section 5, or what refuses them
+-- what they hand on
+pub record Holds (b : List ℕ) (m : Mesh) : Type 0 where
+  pub n : m.n ≡ count b
+  pub t : m.t ≡ count (from2 b)
+  pub vertices : m.n ≤ max_vertices
+  pub triangles : m.t ≤ max_triangles
+  pub next : m.behind.now ≡ from5 b
+
+-- ---- section 5
+
+-- its settings, or what refuses them
 pub data Items : Type 0 where
   Read : Settings → Items
   Refused : ℕ → Items

@@ -1,42 +1,75 @@
-// The sections of a sheet: each is tested from its count on, and its items are read through the part behind the count.
+// The sections of a sheet: each is tested from its count on, its items are read through the part behind the count, and it hands on the sheet behind it.
 #![tactic(auto)]
 
 ghost use Rattle.std.specs.Prelude.{◌≡◌, ◌+◌, ◌*◌, ◌≤◌, ◌<◌, ◌^◌, IfOk, map, length, drop};
 ghost use Rattle.std.specs.Simd.{first_chunks};
-ghost use Rattle.refusal.specs.Refusal.{number_of, fault};
+ghost use Rattle.refusal.specs.Refusal.{fault};
 ghost use Rattle.format.specs.Bytes.{number};
 ghost use Rattle.format.specs.Sheet.{head_fault, vertices_fault, triangles_fault, neighbours_fault, tags_fault};
-ghost use Rattle.sections.specs.Steps.{within, items_of, items_read, mesh_fault, settings_read};
+ghost use Rattle.sections.specs.Steps.{rule_of, most, Follows, Holds, items_of, items_read, mesh_fault, settings_read};
 
 use format::Settings;
 use format::faults::{each, neighbour_fault, pattern_fault, tag_fault, vertex_fault};
 use format::items::{add, setting_fault, setting_of};
 use refusal::Refusal;
 
+// What a section's count has to be.
+#[derive(Clone, Copy)]
+enum Rule {
+    AtMost(usize),
+    Exactly(usize),
+}
+
+// A section that is not refused: how many items its count says, and the sheet behind them.
+#[derive(Clone, Copy)]
+struct Section<'a> {
+    count: usize,
+    behind: &'a [u8],
+}
+
+// Sections 1 to 4 that are not refused: n vertices, t triangles, and the sheet from section 5 on.
+#[derive(Clone, Copy)]
+pub struct Mesh<'a> {
+    pub n: usize,
+    pub t: usize,
+    pub behind: &'a [u8],
+}
+
 pub fn count(s: &[u8]) -> usize
     requires { 4 ≤ length s.now }
-    ensures { result ≡ number 4 s.now }
+    ensures read { result ≡ number 4 s.now }
+    ensures small { result < 2 ^ 32 }
 {
     format::bytes::first_u32(s) as usize
 }
 
-// The count of a section, before its items are read: it is from low to high, or else refused as `other`; an item has `size` bytes.
-fn head(s: &[u8], low: usize, high: usize, other: Refusal, size: usize) -> Result<usize, Refusal>
-    requires { (high < 2 ^ 32) × (size ≤ 16) }
-    ensures refused { fault result ≡ head_fault (within low high (number_of other)) size s.now }
-    ensures counted { IfOk result (λ k. k ≡ number 4 s.now) }
+impl Rule {
+    fn fault(self, k: usize) -> Result<(), Refusal>
+        ensures { fault result ≡ rule_of self k }
+    {
+        match self {
+            Rule::AtMost(limit) if limit < k => Err(Refusal::TooMany),
+            Rule::Exactly(expected) if k != expected => Err(Refusal::Mismatch),
+            _ => Ok(()),
+        }
+    }
+}
+
+// A section before its items are read; an item has `size` bytes.
+fn head(s: &[u8], rule: Rule, size: usize) -> Result<Section, Refusal>
+    requires { size ≤ 16 }
+    ensures refused { fault result ≡ head_fault (rule_of rule) size s.now }
+    ensures follows { IfOk result (λ r. Follows (most rule) size s.now r) }
 {
     if s.len() < 4 {
         return Err(Refusal::Length);
     }
-    let k = count(s);
-    if k < low || high < k {
-        return Err(other);
+    let count = count(s);
+    rule.fault(count)?;
+    match s.get(4 + size * count..) {
+        Some(behind) => Ok(Section { count, behind }),
+        None => Err(Refusal::Length),
     }
-    if s.len() < 4 + size * k {
-        return Err(Refusal::Length);
-    }
-    Ok(k)
 }
 
 // The first k numbers of N bytes behind a section's count.
@@ -47,55 +80,65 @@ fn numbers<const N: usize>(s: &[u8], k: usize) -> &[[u8; N]]
     &s[4..].as_chunks().0[..k]
 }
 
-fn vertices_fault(s: &[u8]) -> Result<(), Refusal>
-    ensures { fault result ≡ vertices_fault s.now }
+// The four sections of the mesh differ in rule, width and test. One function over these would ask for `F: Fn(&[u8; N])`, and Rattle's borrow checker does not cover a bound of Fn that names a const parameter.
+
+fn vertices_fault(s: &[u8]) -> Result<Section, Refusal>
+    ensures refused { fault result ≡ vertices_fault s.now }
+    ensures follows { IfOk result (λ r. Follows 4096 16 s.now r) }
 {
-    let n = head(s, 0, format::MAX_VERTICES, Refusal::TooMany, 16)?;
-    each(numbers(s, 2 * n), |x| pattern_fault(u64::from_le_bytes(*x)))
+    let section = head(s, Rule::AtMost(format::MAX_VERTICES), 16)?;
+    each(numbers(s, 2 * section.count), |x| {
+        pattern_fault(u64::from_le_bytes(*x))
+    })?;
+    Ok(section)
 }
 
-fn triangles_fault(s: &[u8], n: usize) -> Result<(), Refusal>
-    ensures { fault result ≡ triangles_fault n s.now }
+fn triangles_fault(s: &[u8], n: usize) -> Result<Section, Refusal>
+    ensures refused { fault result ≡ triangles_fault n s.now }
+    ensures follows { IfOk result (λ r. Follows 8192 12 s.now r) }
 {
-    let t = head(s, 0, format::MAX_TRIANGLES, Refusal::TooMany, 12)?;
-    each(
-        numbers(s, 3 * t),
-        |x| vertex_fault(u32::from_le_bytes(*x), n),
-    )
+    let section = head(s, Rule::AtMost(format::MAX_TRIANGLES), 12)?;
+    each(numbers(s, 3 * section.count), |x| {
+        vertex_fault(u32::from_le_bytes(*x), n)
+    })?;
+    Ok(section)
 }
 
-fn neighbours_fault(s: &[u8], t: usize) -> Result<(), Refusal>
+fn neighbours_fault(s: &[u8], t: usize) -> Result<Section, Refusal>
     requires { t ≤ 8192 }
-    ensures { fault result ≡ neighbours_fault t s.now }
+    ensures refused { fault result ≡ neighbours_fault t s.now }
+    ensures follows { IfOk result (λ r. Follows (3 * t) 4 s.now r) }
 {
-    let k = head(s, 3 * t, 3 * t, Refusal::Mismatch, 4)?;
-    each(
-        numbers(s, k),
-        |x| neighbour_fault(u32::from_le_bytes(*x), t),
-    )
+    let section = head(s, Rule::Exactly(3 * t), 4)?;
+    each(numbers(s, section.count), |x| {
+        neighbour_fault(u32::from_le_bytes(*x), t)
+    })?;
+    Ok(section)
 }
 
-fn tags_fault(s: &[u8], n: usize) -> Result<(), Refusal>
-    requires { n ≤ 4096 }
-    ensures { fault result ≡ tags_fault n s.now }
+fn tags_fault(s: &[u8], n: usize) -> Result<Section, Refusal>
+    ensures refused { fault result ≡ tags_fault n s.now }
+    ensures follows { IfOk result (λ r. Follows n 1 s.now r) }
 {
-    let k = head(s, n, n, Refusal::Mismatch, 1)?;
-    each(numbers(s, k), |x: &[u8; 1]| tag_fault(x[0]))
+    let section = head(s, Rule::Exactly(n), 1)?;
+    each(numbers(s, section.count), |x: &[u8; 1]| tag_fault(x[0]))?;
+    Ok(section)
 }
 
 // Sections 1 to 4.
-pub fn mesh_fault(s: &[u8]) -> Result<(), Refusal>
-    ensures { fault result ≡ mesh_fault s.now }
+pub fn mesh_fault(s: &[u8]) -> Result<Mesh, Refusal>
+    ensures refused { fault result ≡ mesh_fault s.now }
+    ensures holds { IfOk result (λ m. Holds s.now m) }
 {
-    vertices_fault(s)?;
-    let n = count(s);
-    let s2 = &s[4 + 16 * n..];
-    triangles_fault(s2, n)?;
-    let t = count(s2);
-    let s3 = &s2[4 + 12 * t..];
-    neighbours_fault(s3, t)?;
-    let k = count(s3);
-    tags_fault(&s3[4 + 4 * k..], n)
+    let first = vertices_fault(s)?;
+    let second = triangles_fault(first.behind, first.count)?;
+    let third = neighbours_fault(second.behind, second.count)?;
+    let fourth = tags_fault(third.behind, first.count)?;
+    Ok(Mesh {
+        n: first.count,
+        t: second.count,
+        behind: fourth.behind,
+    })
 }
 
 // The items of section 5, each read into a Setting and taken apart.
@@ -121,6 +164,6 @@ fn read_items(items: &[[u8; 9]]) -> Result<Settings, Refusal>
 pub fn settings(s: &[u8]) -> Result<Settings, Refusal>
     ensures { items_of result ≡ settings_read s.now }
 {
-    let m = head(s, 0, format::MAX_SETTINGS, Refusal::TooMany, 9)?;
-    read_items(numbers(s, m))
+    let section = head(s, Rule::AtMost(format::MAX_SETTINGS), 9)?;
+    read_items(numbers(s, section.count))
 }

@@ -1,20 +1,20 @@
 -- The whole check: its steps are the links of `fault_of`, its places those of the sections, and its answer that of `parse`. Assumes nothing.
-use Prim.Native.Nat.{ℕ, zero, suc, ◌+◌, ◌*◌, ◌-◌, ◌≤◌}
+use Prim.Native.Nat.{ℕ, zero, suc, ◌+◌, ◌*◌, ◌≤◌}
 use mathlib.Core.Path.{◌≡◌, refl, sym, ap, ap₂, ◌∙◌}
 use mathlib.Core.List.{List, map}
 use native.Mathlib.Omega.{arith}
 use borrow.Author.Tests.{eq-eqb, ne_eqb}
 use lib.Dec.{eqb}
-use lib.ListN.{length, drop, length-drop}
+use lib.ListN.{length}
 use Rattle.binary64.specs.Number.{pick}
 use Rattle.format.specs.declared.Settings.{Settings}
 use Rattle.format.specs.Bytes.{number}
-use Rattle.format.specs.Content.{max_vertices, max_triangles, max_settings}
-use Rattle.format.specs.Refusal.{◌then◌, over, unlike, missing}
+use Rattle.format.specs.Content.{max_settings}
+use Rattle.format.specs.Refusal.{◌then◌, over, missing}
 use Rattle.format.specs.Sheet.{count, behind, from2, from3, from4, from5, leftover, items_in, item_setting, no_settings, gathered, content_of, vertices_fault, triangles_fault, neighbours_fault, tags_fault, settings_fault, fault_of, decide, parse}
-use Rattle.format.specs.RefusalLaws.{Neither, neither, then_assoc, then_second, pick_true, pick_false}
-use Rattle.format.specs.SectionLaws.{Head, over-le, unlike-eq}
-use Rattle.format.specs.SheetLaws.{vertices_head, triangles_head, neighbours_head, tags_head, settings_head, vertex_count_lem, triangle_count_lem, length-behind, behind-drop}
+use Rattle.format.specs.RefusalLaws.{then_assoc, then_second, pick_true, pick_false}
+use Rattle.format.specs.SectionLaws.{Head, over-le}
+use Rattle.format.specs.SheetLaws.{settings_head, vertex_count_lem, triangle_count_lem, length-behind}
 use Rattle.sheet.specs.declared.Header.{Header}
 use Rattle.refusal.specs.Refusal.{number_of}
 use Rattle.refusal.specs.declared.Refusal.{Refusal}
@@ -47,67 +47,6 @@ module _ (n t : ℕ) (st : Settings) (s : List ℕ) (m : ℕ) (e : m ≡ count s
   pub finish_whole : (r : Header) → length s ≡ 4 + 9 * m → 0 ≡ missing st → r ≡ header_by n t st → Accepted r ≡ finished n t st s
   unfolding finished
   finish_whole r h p q = sym (ap₂ checked_by (then_second (missing st) (none_left h) ∙ sym p) (sym q))
-
--- ---- sections 1 to 4
-
-pub record Mesh (b : List ℕ) : Type 0 where
-  pub vertices : Head (over max_vertices) 16 b
-  pub triangles : Head (over max_triangles) 12 (from2 b)
-  pub neighbours : Head (unlike (3 * count (from2 b))) 4 (from3 b)
-  pub tags : Head (unlike (count b)) 1 (from4 b)
-
-pub mesh : (b : List ℕ) → mesh_fault b ≡ 0 → Mesh b
-unfolding mesh_fault
-mesh b h =
-    let p1 : Neither (vertices_fault b) _ = neither _ _ h in
-    let p2 : Neither (triangles_fault (count b) (from2 b)) _ = neither _ _ p1.second in
-    let p3 : Neither (neighbours_fault (count (from2 b)) (from3 b)) (tags_fault (count b) (from4 b)) = neither _ _ p2.second in
-    record {
-      vertices = vertices_head b p1.first;
-      triangles = triangles_head (count b) (from2 b) p2.first;
-      neighbours = neighbours_head (count (from2 b)) (from3 b) p3.first;
-      tags = tags_head (count b) (from4 b) p3.second;
-    }
-
--- n and t are the counts of sections 1 and 2, as they are read from their places
-pub record Places (b : List ℕ) (n t : ℕ) : Type 0 where
-  pub vertices : n ≤ 4096
-  pub triangles : t ≤ 8192
-  pub second : count (from2 b) ≡ t
-  pub fits : 16 + 17 * n + 24 * t ≤ length b
-  pub fifth : from5 b ≡ drop (16 + 17 * n + 24 * t) b
-
-from2_is : (b : List ℕ) (n : ℕ) → n ≡ count b → from2 b ≡ drop (4 + 16 * n) b
-unfolding behind
-from2_is b n e = ap (λ (k : ℕ). drop (4 + 16 * k) b) (sym e)
-
-pub second_fits : (b : List ℕ) (n : ℕ) → Mesh b → n ≡ number 4 b → 4 + 16 * n + 4 ≤ length b
-second_fits b n m e =
-    let l : length (from2 b) ≡ length b - (4 + 16 * n) = ap length (from2_is b n e) ∙ length-drop (4 + 16 * n) b in
-    let f : 4 ≤ length (from2 b) = m.triangles.four in
-    omega arith
-
-pub places : (b : List ℕ) (n t : ℕ) → Mesh b → n ≡ number 4 b → t ≡ number 4 (drop (4 + 16 * n) b) → Places b n t
-places b n t m en et =
-    let s2 : from2 b ≡ drop (4 + 16 * n) b = from2_is b n en in
-    let c2 : count (from2 b) ≡ t = ap (number 4) s2 ∙ sym et in
-    let c3 : count (from3 b) ≡ 3 * t = unlike-eq m.neighbours.counted ∙ ap (λ (k : ℕ). 3 * k) c2 in
-    let c4 : count (from4 b) ≡ n = unlike-eq m.tags.counted ∙ sym en in
-    let s3 : from3 b ≡ drop (4 + 16 * n + (4 + 12 * t)) b = behind-drop 12 t (4 + 16 * n) b (from2 b) s2 c2 in
-    let s4 : from4 b ≡ drop (4 + 16 * n + (4 + 12 * t) + (4 + 4 * (3 * t))) b = behind-drop 4 (3 * t) (4 + 16 * n + (4 + 12 * t)) b (from3 b) s3 c3 in
-    let s5 : from5 b ≡ drop (4 + 16 * n + (4 + 12 * t) + (4 + 4 * (3 * t)) + (4 + 1 * n)) b = behind-drop 1 n (4 + 16 * n + (4 + 12 * t) + (4 + 4 * (3 * t))) b (from4 b) s4 c4 in
-    let a : 4 + 16 * n + (4 + 12 * t) + (4 + 4 * (3 * t)) + (4 + 1 * n) ≡ 16 + 17 * n + 24 * t = omega arith in
-    let l4 : length (from4 b) ≡ length b - (4 + 16 * n + (4 + 12 * t) + (4 + 4 * (3 * t))) = ap length s4 ∙ length-drop (4 + 16 * n + (4 + 12 * t) + (4 + 4 * (3 * t))) b in
-    let w4 : 4 + 1 * count (from4 b) ≤ length (from4 b) = m.tags.whole in
-    let v : count b ≤ 4096 = over-le m.vertices.counted in
-    let w : count (from2 b) ≤ 8192 = over-le m.triangles.counted in
-    record {
-      vertices = omega arith;
-      triangles = omega arith;
-      second = c2;
-      fits = omega arith;
-      fifth = s5 ∙ ap (λ (k : ℕ). drop k b) a;
-    }
 
 -- ---- the answer
 

@@ -1,2 +1,3 @@
 pub mod Answers
 pub mod Check
+pub mod Pieces

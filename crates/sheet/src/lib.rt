@@ -12,6 +12,7 @@ ghost use Rattle.sheet.specs.Write.{lent, written, Writes};
 use format::items::missing_fault;
 use format::{Content, Settings};
 use refusal::Refusal;
+use sections::Mesh;
 use writing::present_count;
 use writing::putting::put_sheet;
 use writing::refusing::content_refusal;
@@ -44,28 +45,26 @@ fn header_of(n: usize, t: usize, settings: Settings) -> Header
 }
 
 // The last tests: nothing is left behind section 5, and no setting is missing.
-fn finish(s: &[u8], n: usize, t: usize, settings: Settings) -> Result<Header, Refusal>
-    requires { Whole5 n t s.now }
-    ensures { checked result ≡ finished n t settings s.now }
+fn finish(mesh: Mesh, settings: Settings) -> Result<Header, Refusal>
+    requires { Whole5 mesh.n mesh.t mesh.behind.now }
+    ensures { checked result ≡ finished mesh.entry.n mesh.entry.t settings mesh.entry.behind.now }
 {
+    let s = mesh.behind;
     let m = sections::count(s);
     if s.len() != 4 + 9 * m {
         return Err(Refusal::Length);
     }
     missing_fault(settings)?;
-    Ok(header_of(n, t, settings))
+    Ok(header_of(mesh.n, mesh.t, settings))
 }
 
 // Whether s is a sheet.
 pub fn check_sheet(s: &[u8]) -> Result<Header, Refusal>
     ensures { checked result ≡ checked_of (parse s.now) }
 {
-    sections::mesh_fault(s)?;
-    let n = sections::count(s);
-    let t = sections::count(&s[4 + 16 * n..]);
-    let s5 = &s[16 + 17 * n + 24 * t..];
-    let settings = sections::settings(s5)?;
-    finish(s5, n, t, settings)
+    let mesh = sections::mesh_fault(s)?;
+    let settings = sections::settings(mesh.behind)?;
+    finish(mesh, settings)
 }
 
 // The sheet of a content, from the front of out, and how many bytes it has.

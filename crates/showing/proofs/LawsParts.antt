@@ -1,8 +1,7 @@
 -- Laws of the parts of the floats that a run shows. Assumes nothing.
-use Prim.Native.Nat.{ℕ, ◌+◌, ◌-◌, ◌≤◌, ◌<◌}
+use Prim.Native.Nat.{ℕ, ◌+◌, ◌-◌, ◌*◌, ◌≤◌, ◌<◌}
 use mathlib.Core.Path.{◌≡◌, refl, sym, ◌∙◌}
 use mathlib.Core.Bool.{Bool, true, false, ◌&&◌}
-use Rattle.std.proofs.lemmas.Bool.{false≢true}
 use Rattle.std.proofs.lemmas.List.{take_rest}
 use mathlib.Core.List.{List, []}
 use native.Mathlib.Omega.{arith}
@@ -11,11 +10,16 @@ use lib.Dec.{leb}
 use lib.ListN.{length, take, drop}
 use lib.Ieee.{Float}
 use Rattle.binary64.specs.Number.{pick}
-use Rattle.binary64.specs.NumberLaws.{both}
 use Rattle.stretch.specs.Stretch.{part}
+use Rattle.stretch.specs.StretchLaws.{part_zero}
 use Rattle.format.specs.Content.{max_vertices, max_triangles}
 use Rattle.work.specs.declared.Plan.{Plan}
-use Rattle.image.specs.Parts.{within, counted}
+use Rattle.work.specs.declared.Run.{Run}
+use Rattle.work.specs.Layout.{at_x, at_gradients, at_norms}
+use Rattle.image.specs.Parts.{within, counted, field_of, norms_of, gradients_of}
+use Rattle.showing.specs.declared.parts.Shown.{Shown}
+use Rattle.showing.specs.declared.parts.Shown.TheVariants.{Field, Norms, Gradients}
+use Rattle.showing.specs.Shown.{counted_or_0, part_of, shown_of}
 
 pub within_none : (l : List Float) (at k : ℕ) → length l < at + k → [] ≡ within l at k
 unfolding within
@@ -29,14 +33,21 @@ within_all l at k rest got r e h g =
     let d : k - 0 ≡ k = omega arith in
     g ∙ rw (le-leb (at + k) (length l) (omega arith), f, d)
 
-module _ (plan : Plan) (l : List Float) where
-  pub uncounted : (leb plan.n max_vertices && leb plan.t max_triangles) ≡ false → [] ≡ counted plan l
-  uncounted e = go (leb plan.n max_vertices) (leb plan.t max_triangles) e
-    where
-      go : (n t : Bool) → (n && t) ≡ false → [] ≡ pick n (pick t l []) []
-      go true true e = absurd (false≢true (sym e))
-      go true false e = refl
-      go false t e = refl
+-- a part that starts at 0 and has no place for counts that no sheet has
+counted_within : (p : Plan) (l : List Float) (at count : ℕ) → within l (counted_or_0 p at) (counted_or_0 p count) ≡ counted p (within l at count)
+unfolding within
+counted_within p l at count = go (leb p.n max_vertices) (leb p.t max_triangles)
+  where
+    none : within l 0 0 ≡ []
+    none = rw (le-leb 0 (length l) (omega arith)) (part_zero l 0)
 
-  pub counted_all : (leb plan.n max_vertices && leb plan.t max_triangles) ≡ true → l ≡ counted plan l
-  counted_all e = let h = both (leb plan.n max_vertices) (leb plan.t max_triangles) e in rw (h.0, h.1)
+    go : (n t : Bool) → within l (pick (n && t) at 0) (pick (n && t) count 0) ≡ pick n (pick t (within l at count) []) []
+    go true true = refl
+    go true false = none
+    go false t = none
+
+pub shown_within : (s : Shown) (r : Run) (l : List Float) → within l (part_of s r).at (part_of s r).count ≡ shown_of s r l
+unfolding part_of field_of norms_of gradients_of
+shown_within Field r l = counted_within r.plan l (at_x r.plan.n r.plan.t) r.plan.n
+shown_within Norms r l = counted_within r.plan l (at_norms r.plan.n r.plan.t) r.stand.norms
+shown_within Gradients r l = counted_within r.plan l (at_gradients r.plan.n r.plan.t) (2 * r.plan.t)

@@ -2,65 +2,97 @@
 ghost use Rattle.std.specs.Prelude.{◌≡◌, ◌&&◌, leb};
 ghost use Rattle.format.specs.Content.{max_vertices, max_triangles};
 ghost use Rattle.image.specs.Parts as Parts;
+ghost use Rattle.showing.specs.Shown as Places;
 
 use work::{Plan, Run};
+
+// What a run shows of its floats.
+#[derive(Clone, Copy)]
+pub enum Shown {
+    // the n values of the field
+    Field,
+    // the norms so far
+    Norms,
+    // x and y of each triangle's gradient
+    Gradients,
+}
+
+// Where a part of the floats starts, and how many places it has. C is told the place in its buffer, so a part is a place and a count.
+#[derive(Clone, Copy)]
+pub struct Part {
+    pub at: usize,
+    pub count: usize,
+}
 
 // Whether n and T are ones that a sheet may have.
 pub fn counted(plan: Plan) -> bool
     ensures { result ≡ (leb plan.n max_vertices && leb plan.t max_triangles) }
 {
-    (plan.n <= 4096) & (plan.t <= 8192)
+    (plan.n <= format::MAX_VERTICES) & (plan.t <= format::MAX_TRIANGLES)
 }
 
-fn within(floats: &[f64], at: usize, count: usize) -> &[f64]
-    ensures { result.now ≡ Parts.within floats.now at count }
+// What stands at a part of the floats. A start and a count of a record may have a sum that does not fit: so they are cut one after the other. Two `let else`, and no chain of `and_then` and `unwrap_or`: what the chain's closure gives, the search does not find.
+fn within(floats: &[f64], part: Part) -> &[f64]
+    ensures { result.now ≡ Parts.within floats.now part.at part.count }
 {
-    let Some(rest) = floats.get(at..) else {
+    let Some(rest) = floats.get(part.at..) else {
         return &floats[..0];
     };
-    let Some(part) = rest.get(..count) else {
+    let Some(shown) = rest.get(..part.count) else {
         return &floats[..0];
     };
-    part
+    shown
 }
 
-// The n values of the field.
+impl Shown {
+    // None at 0 for counts that no sheet has.
+    #[tactic(auto, unfolding(crate::specs::Shown::part_of))]
+    pub fn part(self, run: Run) -> Part
+        ensures { result ≡ Places.part_of self run }
+    {
+        let plan = run.plan;
+        if !counted(plan) {
+            return Part { at: 0, count: 0 };
+        }
+        match self {
+            Shown::Field => Part {
+                at: plan.at_x(),
+                count: plan.n,
+            },
+            Shown::Norms => Part {
+                at: plan.at_norms(),
+                count: run.stand.norms,
+            },
+            Shown::Gradients => Part {
+                at: plan.at_gradients(),
+                count: 2 * plan.t,
+            },
+        }
+    }
+
+    // What stands there.
+    #[tactic(auto, using(crate::proofs::LawsParts::shown_within))]
+    fn of(self, run: Run, floats: &[f64]) -> &[f64]
+        ensures { result.now ≡ Places.shown_of self run floats.now }
+    {
+        within(floats, self.part(run))
+    }
+}
+
 pub fn field(run: Run, floats: &[f64]) -> &[f64]
     ensures { result.now ≡ Parts.field_of run floats.now }
 {
-    let plan = run.plan;
-    if !counted(plan) {
-        return &floats[..0];
-    }
-    within(floats, work::layout::at_x(plan.n, plan.t), plan.n)
+    Shown::Field.of(run, floats)
 }
 
-// The norms so far.
 pub fn norms(run: Run, floats: &[f64]) -> &[f64]
     ensures { result.now ≡ Parts.norms_of run floats.now }
 {
-    let plan = run.plan;
-    if !counted(plan) {
-        return &floats[..0];
-    }
-    within(
-        floats,
-        work::layout::at_norms(plan.n, plan.t),
-        run.stand.norms,
-    )
+    Shown::Norms.of(run, floats)
 }
 
-// x and y of each triangle's gradient.
 pub fn gradients(run: Run, floats: &[f64]) -> &[f64]
     ensures { result.now ≡ Parts.gradients_of run floats.now }
 {
-    let plan = run.plan;
-    if !counted(plan) {
-        return &floats[..0];
-    }
-    within(
-        floats,
-        work::layout::at_gradients(plan.n, plan.t),
-        2 * plan.t,
-    )
+    Shown::Gradients.of(run, floats)
 }

@@ -5,7 +5,7 @@ ghost use Rattle.image.specs.Points.{points_of};
 
 use work::Run;
 
-// The filled points, x and y of each, as a part of the lent path buffer.
+// The filled points, x and y of each, as a part of the lent path buffer. A record may hold any count, whose double need not fit: so the count is compared with half the length.
 pub fn points(run: Run, path: &[f64]) -> &[f64]
     ensures { result.now ≡ points_of run path.now }
 {

@@ -1,5 +1,5 @@
 -- The product by rows: one element, and the loop that writes them all. Assumes nothing.
-use Rattle.std.specs.Prelude.{◌≡◌, ◌⊎◌, refl, ℕ, zero, suc, ◌+◌, ◌-◌, ◌≤◌, ◌<◌, List, [], ◌∷◌, ◌++◌, length, take, drop, get_or, set, Float}
+use Rattle.std.specs.Prelude.{◌≡◌, ◌⊎◌, refl, ℕ, zero, suc, ◌+◌, ◌-◌, ◌≤◌, ◌<◌, List, [], ◌∷◌, ◌++◌, length, take, get_or, set, Float}
 use Rattle.std.specs.Float.{nan}
 use Rattle.std.proofs.Common.{sym, ap, ◌∙◌, inl, inr, ⊎_elim, add-one, arith, get_or-append-add, take-suc, length-take-le}
 use Rattle.std.proofs.Math.Seq.{take_all}
@@ -33,10 +33,10 @@ module _ (starts cols : List ℕ) (values x : List Float) where
   unfolding first_rows
   mat_vec_suc i = mat_vec_snoc (first_rows starts cols values i) (row_at starts cols values i) x
 
-  -- a row from the parts that are lent
+  -- a row from where it starts and ends
   row_is : (i from to : ℕ) (y : Float) → from ≡ get_or starts i 0 → to ≡ get_or starts (i + 1) 0
-      → y ≡ row_product (entries (take (to - from) (drop from cols)) (take (to - from) (drop from values))) x → y ≡ row_product (row_at starts cols values i) x
-  unfolding row_at part
+      → y ≡ row_product (entries (part cols from (to - from)) (part values from (to - from))) x → y ≡ row_product (row_at starts cols values i) x
+  unfolding row_at
   row_is i from to y f t e = e ∙ rw (f, t)
 
   -- element i of the product is that of row i
@@ -53,7 +53,7 @@ module _ (starts cols : List ℕ) (values x : List Float) where
       (le_or_last i k (omega arith)))
 
   pub element_is : (k i from to : ℕ) (y : Float) → i < k → from ≡ get_or starts i 0 → to ≡ get_or starts (i + 1) 0
-      → y ≡ row_product (entries (take (to - from) (drop from cols)) (take (to - from) (drop from values))) x → y ≡ get_or (mat_vec (first_rows starts cols values k) x) i nan
+      → y ≡ row_product (entries (part cols from (to - from)) (part values from (to - from))) x → y ≡ get_or (mat_vec (first_rows starts cols values k) x) i nan
   element_is k i from to y h f t e = row_is i from to y f t e ∙ sym (mat_vec-at k i h)
 
   -- ---- the loop over the rows: `old` is what the product is written over
@@ -69,7 +69,7 @@ module _ (starts cols : List ℕ) (values x : List Float) where
   rows_none old from e = record { is = rw (mat_vec_none, splice_nil); sum_is = refl; from_is = e }
 
   pub rows_step : {old out : List Float} {i from : ℕ} {sum : Float} (to : ℕ) (y : Float) → Rows old out i sum from → i < length x → to ≡ get_or starts (i + 1) 0
-      → y ≡ row_product (entries (take (to - from) (drop from cols)) (take (to - from) (drop from values))) x → Rows old (set out i y) (i + 1) (sum ⊕ get_or x i nan ⊗ y) to
+      → y ≡ row_product (entries (part cols from (to - from)) (part values from (to - from))) x → Rows old (set out i y) (i + 1) (sum ⊕ get_or x i nan ⊗ y) to
   rows_step {old} {out} {i} {from} {sum} to y so_far h t ey =
       let done : List Float = mat_vec (first_rows starts cols values i) x in
       let v : Float = row_product (row_at starts cols values i) x in

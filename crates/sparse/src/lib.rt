@@ -1,14 +1,16 @@
 // A sparse matrix by rows, its product with a vector, and scans that decide whether stored lists are such a matrix.
+// Stored numbers are u32 and become indices by `as`: no `From` leads from u32 to usize.
 #![tactic(auto)]
 
 ghost use Rattle.std.specs.Prelude.{◌≡◌, ◌+◌, ◌-◌, ◌<◌, ◌≤◌, length, get_or};
 ghost use Rattle.std.specs.Float.{nan};
 ghost use Rattle.binary64.specs.Arith.{◌⊕◌, ◌⊗◌};
+ghost use Rattle.stretch.specs.Stretch.{part};
 ghost use Rattle.sparse.specs.Sparse.{row_from, row_product, entries};
 ghost use Rattle.sparse.specs.ByRows.{IsByRows, IsRow};
 ghost use Rattle.sparse.specs.Scan as Scan;
 
-// Compressed sparse rows: row i has the entries from starts[i] up to starts[i + 1], the columns and values side by side.
+// Compressed sparse rows, whole and only read, where a `rows::matrix::Builder` is one that is put down: row i has the entries from starts[i] up to starts[i + 1], the columns and values side by side.
 #[derive(Clone, Copy)]
 pub struct Matrix<'a> {
     pub starts: &'a [u32],
@@ -46,49 +48,49 @@ fn term(value: f64, column: u32, x: &[f64], sum: f64) -> f64
     sum + value * x[column as usize]
 }
 
-// A sum, and the products of the entries with x.
-fn rest(cols: &[u32], values: &[f64], x: &[f64], partial: f64) -> f64
-    requires { IsRow cols.now (length values.now) (length x.now) }
-    ensures { result ≡ row_from partial (entries cols.now values.now) x.now }
+// A sum, and the products of the entries from `from` up to `to` with x. Columns and values are lent whole, with numbers for a row: parts made anew for each row take more registers than the loop over the rows has (docs/PROVING.md, Speed). A struct of them would be made again for each shorter rest.
+fn rest(cols: &[u32], values: &[f64], x: &[f64], from: usize, to: usize, partial: f64) -> f64
+    requires { (from ≤ to) × (to ≤ length cols.now) × IsRow cols.now (length values.now) (length x.now) }
+    ensures { result ≡ row_from partial (entries (part cols.now from (to - from)) (part values.now from (to - from))) x.now }
 {
     let mut sum = partial;
-    for (e, column) in cols.iter().enumerate() {
-        sum = term(values[e], *column, x, sum);
+    for e in from..to {
+        sum = term(values[e], cols[e], x, sum);
     }
     sum
 }
 
 // The same; two entries are taken before the loop, and most rows have no more.
-fn rest_of_few(cols: &[u32], values: &[f64], x: &[f64], partial: f64) -> f64
-    requires { IsRow cols.now (length values.now) (length x.now) }
-    ensures { result ≡ row_from partial (entries cols.now values.now) x.now }
+fn rest_of_few(cols: &[u32], values: &[f64], x: &[f64], from: usize, to: usize, partial: f64) -> f64
+    requires { (from ≤ to) × (to ≤ length cols.now) × IsRow cols.now (length values.now) (length x.now) }
+    ensures { result ≡ row_from partial (entries (part cols.now from (to - from)) (part values.now from (to - from))) x.now }
 {
-    let n = cols.len();
-    if n == 0 {
+    if from == to {
         return partial;
     }
-    let a = term(values[0], cols[0], x, partial);
-    if n == 1 {
+    let a = term(values[from], cols[from], x, partial);
+    let second = from + 1;
+    if second == to {
         return a;
     }
-    let b = term(values[1], cols[1], x, a);
-    rest(&cols[2..], &values[2..], x, b)
+    let b = term(values[second], cols[second], x, a);
+    rest(cols, values, x, second + 1, to, b)
 }
 
-// The product of a row with x. Five entries without a loop, then two, were measured to be faster (docs/PROVING.md, Speed).
-fn row(cols: &[u32], values: &[f64], x: &[f64]) -> f64
-    requires { IsRow cols.now (length values.now) (length x.now) }
-    ensures { result ≡ row_product (entries cols.now values.now) x.now }
+// The product of a row with x: five entries without a loop, then two, since a loop takes longer (docs/PROVING.md, Speed).
+fn row(cols: &[u32], values: &[f64], x: &[f64], from: usize, to: usize) -> f64
+    requires { (from ≤ to) × (to ≤ length cols.now) × IsRow cols.now (length values.now) (length x.now) }
+    ensures { result ≡ row_product (entries (part cols.now from (to - from)) (part values.now from (to - from))) x.now }
 {
-    if 5 <= cols.len() {
-        let a = term(values[0], cols[0], x, 0.0);
-        let b = term(values[1], cols[1], x, a);
-        let c = term(values[2], cols[2], x, b);
-        let d = term(values[3], cols[3], x, c);
-        let e = term(values[4], cols[4], x, d);
-        return rest_of_few(&cols[5..], &values[5..], x, e);
+    if 5 <= to - from {
+        let a = term(values[from], cols[from], x, 0.0);
+        let b = term(values[from + 1], cols[from + 1], x, a);
+        let c = term(values[from + 2], cols[from + 2], x, b);
+        let d = term(values[from + 3], cols[from + 3], x, c);
+        let e = term(values[from + 4], cols[from + 4], x, d);
+        return rest_of_few(cols, values, x, from + 5, to, e);
     }
-    rest(cols, values, x, 0.0)
+    rest(cols, values, x, from, to, 0.0)
 }
 
 impl<'a> Matrix<'a> {
@@ -102,7 +104,7 @@ impl<'a> Matrix<'a> {
     {
         let from = self.starts[i] as usize;
         let to = self.starts[i + 1] as usize;
-        rest(&self.cols[from..to], &self.values[from..to], x, 0.0)
+        rest(self.cols, self.values, x, from, to, 0.0)
     }
 
     // The product with x, and what it sums to with x.
@@ -118,7 +120,7 @@ impl<'a> Matrix<'a> {
         let mut total = 0.0;
         for (i, at_i) in x.iter().enumerate() {
             let to = starts[i + 1] as usize;
-            let y = row(&cols[from..to], &values[from..to], x);
+            let y = row(cols, values, x, from, to);
             total = total + *at_i * y;
             out[i] = y;
             from = to;

@@ -1,4 +1,5 @@
-// Where the path starts.
+// Where the path starts. `t < triangle_count` and `e < 3` stand in the contracts as in pde's edges.rt.
+// The three searches of a triangle or an edge stay apart: one function would take a closure for the test and one for the point, and each has four lines.
 #![tactic(auto)]
 
 ghost use Rattle.std.specs.Prelude.{◌≡◌, ◌<◌};
@@ -9,10 +10,10 @@ use mesh::Mesh;
 use pde::{Entry, Field};
 use plane::Point;
 
-// No edge.
+// No edge, as a number of `Entry`.
 const NO_EDGE: usize = 3;
 
-// The tag of an inner vertex.
+// The tag of an inner vertex, as a number of the lent words.
 const INNER: u32 = 2;
 
 // ---- a given start

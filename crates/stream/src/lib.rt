@@ -8,7 +8,7 @@ ghost use Rattle.printing.specs.Printed.{printed};
 use std::io;
 use std::io::{Read, Write};
 
-// Writes the text of the bytes that were read.
+// Writes the text of the bytes that were read. Apart from the arrays themselves: in one function with them the bounds of the text take more stack than the checker has.
 fn write_text<W: Write>(
     space: &[u8; printing::READ],
     got: usize,

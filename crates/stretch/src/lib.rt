@@ -1,4 +1,4 @@
-// Kernels on stretches of one lent buffer, each named by where it starts and how many places it has, and the dot product of two slices.
+// Kernels on stretches of one lent buffer, each named by where it starts and how many places it has, since the buffers are lent whole; and the dot product of two slices.
 #![tactic(auto)]
 
 ghost use Rattle.std.specs.Prelude.{◌≡◌, ◌+◌, ◌≤◌, ◌<◌, length, replicate};
@@ -24,7 +24,7 @@ pub fn copy<T: Copy>(s: &mut [T], src: usize, at: usize, n: usize)
     s.copy_within(src..src + n, at);
 }
 
-// The n elements from `at`, moved up by one.
+// The n elements from `at`, moved up by one: over themselves, which the contract of `copy` leaves out. The program has no such move.
 pub fn shift<T: Copy>(s: &mut [T], at: usize, n: usize)
     requires { at + n < length s.old }
     ensures { s.new ≡ splice s.old (at + 1) (part s.old at n) }
@@ -32,7 +32,7 @@ pub fn shift<T: Copy>(s: &mut [T], at: usize, n: usize)
     s.copy_within(at..at + n, at + 1);
 }
 
-// The dot product, summed from the left, from +0.
+// The dot product, summed from the left, from +0. The solver's sums are taken in the loops that make their vectors.
 pub fn dot(a: &[f64], b: &[f64]) -> f64
     ensures { result ≡ Vec.dot a.now b.now }
 {

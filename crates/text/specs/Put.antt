@@ -1,7 +1,9 @@
 -- What a function that puts text into lent bytes does, and a text of which a part is still to be put. Definitions only. Assumes nothing.
 use Rattle.std.specs.Prelude.{◌≡◌, List, ℕ, ◌+◌, ◌≤◌, length, take}
 use Rattle.stretch.specs.Stretch.{splice}
+use Rattle.text.specs.declared.Shown.{Shown}
 use Rattle.text.specs.declared.raw.Output.{Output}
+use Rattle.text.specs.Text.{run_text}
 
 -- The text stands from `at` on, and nothing else is changed; next is the place behind it. s is the buffer before, l after.
 pub record Puts (s : List ℕ) (at : ℕ) (text : List ℕ) (next : ℕ) (l : List ℕ) : Type 0 where
@@ -26,3 +28,7 @@ pub record Left (old : Output) (text : List ℕ) (now : Output) (rest : List ℕ
   pub is : splice now.out.now now.len rest ≡ splice old.out.now old.len text
   pub goes : now.len + length rest ≡ old.len + length text
   pub long : length now.out.now ≡ length old.out.now
+
+-- the text of what is printed of a run
+abbrev pub text_of : Shown → List ℕ
+text_of s = run_text s.place s.field_end s.path_end s.field.now s.norms.now s.gradients.now s.points.now

@@ -1,11 +1,12 @@
 -- Laws of putting text piece by piece: s is the buffer as it was, l as it is now. Assumes nothing.
-use Rattle.std.specs.Prelude.{◌≡◌, refl, List, [], ◌∷◌, ◌++◌, ℕ, ◌+◌, ◌-◌, ◌≤◌, length, set}
-use Rattle.std.proofs.Common.{sym, ap, ◌∙◌, add-zero, arith, length-append, length-take-le}
+use Rattle.std.specs.Prelude.{◌≡◌, refl, List, [], ◌∷◌, ◌++◌, ℕ, ◌+◌, ◌-◌, ◌≤◌, ◌<◌, length, take, get_or, set}
+use Rattle.std.proofs.Common.{sym, ap, ◌∙◌, add-zero, add-one, arith, length-append, take-suc, take_all, length-take-le}
 use Rattle.std.proofs.lemmas.Slice.{put_mid-paste}
 use Rattle.std.proofs.lemmas.List.Edits.{paste_all}
 use borrow.Rule.Slice.PartMut.{put_mid}
 use Rattle.stretch.specs.Stretch.{splice}
 use Rattle.stretch.specs.StretchLaws.{length-splice, splice_nil, splice-one, splice-append, splice_is}
+use Rattle.stretch.proofs.LoopLaws.{write_step}
 use Rattle.text.specs.declared.raw.Output.{Output}
 use Rattle.text.specs.Put.{Puts, Printed, Adds, Left}
 
@@ -66,3 +67,12 @@ left_room_last {s} {l} {text} {a} p h = omega (arith, h, p.goes, p.long)
 
 pub byte_put : (s : List ℕ) (at v : ℕ) → Puts s at (v ∷ []) (at + 1) (set s at v)
 byte_put s at v = puts (sym (splice-one s at v)) refl
+
+-- a byte more of a text
+pub bytes_step : (s l : List ℕ) (at i : ℕ) (text : List ℕ) → i < length text → l ≡ splice s at (take i text) → set l (at + i) (get_or text i 0) ≡ splice s at (take (i + 1) text)
+bytes_step s l at i text h e =
+    write_step s l at i (take i text) (get_or text i 0) (length-take-le i text (omega arith)) e
+    ∙ ap (splice s at) (sym (take-suc text i 0 h) ∙ ap (λ (k : ℕ). take k text) (sym (add-one i)))
+
+pub bytes_put : (s l : List ℕ) (at i : ℕ) (text : List ℕ) → i ≡ length text → l ≡ splice s at (take i text) → Puts s at text (at + i) l
+bytes_put s l at i text h e = puts (e ∙ ap (splice s at) (take_all i text (omega arith))) (ap (λ (k : ℕ). at + k) h)

@@ -1,13 +1,18 @@
 -- Laws of the text: how long it is, and a digit, a number or a line more. Assumes nothing.
-use Rattle.std.specs.Prelude.{◌≡◌, refl, Bool, true, false, List, [], ◌∷◌, ◌++◌, ℕ, zero, suc, ◌+◌, ◌-◌, ◌*◌, ◌/◌, ◌%◌, ◌^◌, ◌≤◌, ◌<◌, ltb, length, drop, get_or, set, Float}
-use Rattle.std.proofs.Common.{sym, ap, ◌∙◌, pow-suc, add-one, arith, ltb-true, ltb-false, length-append, drop-cons}
+use Rattle.std.specs.Prelude.{◌≡◌, refl, Bool, true, false, not, ◌&&◌, ◌||◌, List, [], ◌∷◌, ◌++◌, ℕ, zero, suc, ◌+◌, ◌-◌, ◌*◌, ◌/◌, ◌%◌, ◌^◌, ◌≤◌, ◌<◌, ltb, eqb, length, drop, get_or, set, Float}
+use Rattle.std.proofs.Common.{sym, ap, ◌∙◌, append-nil, append_assoc, pow-suc, add-one, arith, ltb-true, ltb-false, eq-eqb, length-append, drop-cons}
+use Rattle.std.specs.Bool.{beq}
+use Rattle.std.proofs.Math.Numerals.{add-two}
 use Rattle.std.proofs.Math.Nat.{add-div_left, div-eq_of_lt}
 use Rattle.std.proofs.Math.Seq.{take-append_seam, drop-append_seam}
-use Rattle.std.specs.Float.{nan, binary64}
-use Rattle.std.specs.Float.Ieee.{to_bits}
+use Rattle.std.specs.Float.{nan, inf, fin, binary64}
+use Rattle.std.specs.Float.Ieee.{up, down, ne, eq, is_nan, to_bits}
 use Rattle.binary64.specs.Number.{pick}
 use Rattle.stretch.specs.Stretch.{splice}
 use Rattle.stretch.specs.StretchLaws.{splice_nil, splice_snoc, set-splice-after}
+use Rattle.text.specs.declared.Shown.{Shown}
+use Rattle.text.specs.Put.{Puts, text_of}
+use Rattle.text.specs.PutLaws.{puts}
 use Rattle.text.specs.Text.{glyph, digits, places_by, places, decimal, hex_of, space, newline, word, numbers, line, lines_by, lines, singles, pairs, end_line, refused_text, run_text}
 
 -- ---- digits
@@ -122,6 +127,32 @@ pub hex_is : (x : Float) → digits 16 16 (to_bits binary64 x) ≡ hex_of x
 unfolding hex_of
 hex_is x = refl
 
+-- digits that are put are the number's
+pub decimal_put : (s l : List ℕ) (at k n : ℕ) → k ≡ places n → l ≡ splice s at (digits 10 k n) → Puts s at (decimal n) (at + k) l
+unfolding decimal
+decimal_put s l at k n e p =
+    puts (p ∙ ap (λ (j : ℕ). splice s at (digits 10 j n)) e) (ap (λ (j : ℕ). at + j) (e ∙ sym (length_digits 10 (places n) n)))
+
+pub hex_put : (s l : List ℕ) (at b : ℕ) (x : Float) → b ≡ to_bits binary64 x → l ≡ splice s at (digits 16 16 b) → Puts s at (hex_of x) (at + 16) l
+unfolding hex_of
+hex_put s l at b x e p =
+    puts (p ∙ ap (λ (j : ℕ). splice s at (digits 16 16 j)) e) (ap (λ (j : ℕ). at + j) (sym (length_digits 16 16 (to_bits binary64 x))))
+
+-- a NaN alone differs from itself
+pub ne_self : (x : Float) → ne x x ≡ is_nan x
+unfolding ne eq is_nan
+ne_self nan = refl
+ne_self (inf s) = ap not (same s)
+  where
+    same : (b : Bool) → beq b b ≡ true
+    same true = refl
+    same false = refl
+ne_self (fin s m e) = ap not (ap (λ (a : Bool). a && (beq s s || eqb (m * up e * down e) 0)) (eq-eqb (m * up e * down e) (m * up e * down e) refl) ∙ ap (λ (b : Bool). b || eqb (m * up e * down e) 0) (same s))
+  where
+    same : (b : Bool) → beq b b ≡ true
+    same true = refl
+    same false = refl
+
 -- ---- lines
 
 pub length_line_1 : (letter : ℕ) (x : Float) → length (line letter (x ∷ [])) ≡ 19
@@ -147,6 +178,16 @@ length_pairs letter (x ∷ y ∷ xs) = rw length-append (omega (arith, length_li
 pub line_is : (letter : ℕ) (xs : List Float) → line letter xs ≡ (letter ∷ []) ++ (numbers xs ++ (newline ∷ []))
 unfolding line
 line_is letter xs = refl
+
+pub line_1 : (letter : ℕ) (x : Float) → line letter (x ∷ []) ≡ (letter ∷ []) ++ ((space ∷ []) ++ (hex_of x ++ (newline ∷ [])))
+unfolding line numbers
+line_1 letter x = ap (λ (r : List ℕ). letter ∷ space ∷ (r ++ (newline ∷ []))) (append-nil (hex_of x))
+
+pub line_2 : (letter : ℕ) (x y : Float) → line letter (x ∷ y ∷ []) ≡ (letter ∷ []) ++ ((space ∷ []) ++ (hex_of x ++ ((space ∷ []) ++ (hex_of y ++ (newline ∷ [])))))
+unfolding line numbers
+line_2 letter x y =
+    ap (λ (r : List ℕ). letter ∷ space ∷ r) (append_assoc (hex_of x) (space ∷ (hex_of y ++ [])) (newline ∷ []))
+    ∙ ap (λ (r : List ℕ). letter ∷ space ∷ (hex_of x ++ (space ∷ (r ++ (newline ∷ []))))) (append-nil (hex_of y))
 
 -- what is left of the numbers from number i on
 pub numbers-next : (xs : List Float) (i : ℕ) → i < length xs → numbers (drop i xs) ≡ (space ∷ []) ++ (hex_of (get_or xs i nan) ++ numbers (drop (i + 1) xs))
@@ -189,6 +230,31 @@ pairs_are letter [] = lines_none letter 2 [] (omega arith)
 pairs_are letter (x ∷ []) = lines_none letter 2 (x ∷ []) (omega arith)
 pairs_are letter (x ∷ y ∷ xs) = lines_next letter 2 _ (x ∷ y ∷ []) xs (omega arith) refl refl ∙ ap (λ (r : List ℕ). line letter (x ∷ y ∷ []) ++ r) (pairs_are letter xs)
 
+-- what is left of the lines from number i on
+pub singles-next : (letter : ℕ) (xs : List Float) (i : ℕ) → i < length xs → singles letter (drop i xs) ≡ line letter (get_or xs i nan ∷ []) ++ singles letter (drop (i + 1) xs)
+unfolding singles
+singles-next letter xs i h = rw (add-one, drop-cons xs i nan h)
+
+pub singles_none : (letter : ℕ) (xs : List Float) (i : ℕ) → length xs ≤ i → singles letter (drop i xs) ≡ []
+unfolding singles
+singles_none letter [] zero h = refl
+singles_none letter [] (suc i) h = refl
+singles_none letter (x ∷ xs) zero h = absurd (omega arith)
+singles_none letter (x ∷ xs) (suc i) h = singles_none letter xs i (omega arith)
+
+pub pairs_next : (letter : ℕ) (xs : List Float) (i : ℕ) → i + 1 < length xs
+    → pairs letter (drop i xs) ≡ line letter (get_or xs i nan ∷ get_or xs (i + 1) nan ∷ []) ++ pairs letter (drop (i + 2) xs)
+unfolding pairs
+pairs_next letter xs i h = rw (add-one, add-two, drop-cons xs i nan (omega arith), drop-cons xs (suc i) nan (omega arith))
+
+pub pairs_none : (letter : ℕ) (xs : List Float) (i : ℕ) → length xs ≤ i + 1 → pairs letter (drop i xs) ≡ []
+unfolding pairs
+pairs_none letter [] zero h = refl
+pairs_none letter [] (suc i) h = refl
+pairs_none letter (x ∷ []) zero h = refl
+pairs_none letter (x ∷ y ∷ xs) zero h = absurd (omega arith)
+pairs_none letter (x ∷ xs) (suc i) h = pairs_none letter xs i (omega arith)
+
 -- ---- whole texts in pieces, and the room that they need
 
 pub word_is : (n : ℕ) → word n ≡ (space ∷ []) ++ decimal n
@@ -207,6 +273,12 @@ pub run_is : (place field_end path_end : ℕ) (us rs gs ps : List Float)
     → run_text place field_end path_end us rs gs ps ≡ end_line place field_end path_end ++ (singles 117 us ++ (singles 114 rs ++ (pairs 103 gs ++ pairs 112 ps)))
 unfolding run_text
 run_is place field_end path_end us rs gs ps = refl
+
+-- the sections by lines of so many numbers
+pub run_lines : (s : Shown) → text_of s ≡ end_line s.place s.field_end s.path_end ++ (lines 117 1 s.field.now ++ (lines 114 1 s.norms.now ++ (lines 103 2 s.gradients.now ++ lines 112 2 s.points.now)))
+run_lines s =
+    rw (singles_are 117 s.field.now, singles_are 114 s.norms.now, pairs_are 103 s.gradients.now, pairs_are 112 s.points.now)
+    (run_is s.place s.field_end s.path_end s.field.now s.norms.now s.gradients.now s.points.now)
 
 pub length-end : (place field_end path_end : ℕ) → length (end_line place field_end path_end) ≡ 7 + (places place + (places field_end + places path_end))
 unfolding end_line word

@@ -5,6 +5,7 @@ ghost use Rattle.text.specs.Text as Text;
 
 use crate::raw::Output;
 
+// A digit is below 16, and `as` loses nothing: `try_from` would have a refusal that cannot come.
 fn glyph(d: u64) -> u8
     requires { d < 16 }
     ensures { result ≡ Text.glyph d }

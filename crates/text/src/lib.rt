@@ -6,11 +6,23 @@ mod lines;
 mod raw;
 
 ghost use Rattle.std.specs.Prelude.{◌+◌, ◌*◌, ◌≤◌, length};
-ghost use Rattle.text.specs.Put.{Adds, Printed};
+ghost use Rattle.text.specs.Put.{Adds, Printed, text_of};
 ghost use Rattle.text.specs.Text as Text;
 
 pub use raw::Output;
 pub use std::num::f64_to_bits_with_nan as pattern;
+
+// What is printed of a run: its place and the ends of field and path; field values, norms, x and y of the gradients, x and y of the points.
+#[derive(Clone, Copy)]
+pub struct Shown<'a> {
+    pub place: u64,
+    pub field_end: u64,
+    pub path_end: u64,
+    pub field: &'a [f64],
+    pub norms: &'a [f64],
+    pub gradients: &'a [f64],
+    pub points: &'a [f64],
+}
 
 impl Output<'_> {
     // The line of the place and the ends.
@@ -35,25 +47,16 @@ impl Output<'_> {
         self.byte(b'\n');
     }
 
-    // The whole text of a run at its last place: of field values, norms, x and y of the gradients, x and y of the points.
-    pub fn run(
-        &mut self,
-        place: u64,
-        field: u64,
-        path: u64,
-        us: &[f64],
-        rs: &[f64],
-        gs: &[f64],
-        ps: &[f64],
-    )
-        requires { self.old.len + length (Text.run_text place field path us.now rs.now gs.now ps.now) ≤ length self.old.out.now }
-        ensures { Adds self.old self.new (Text.run_text place field path us.now rs.now gs.now ps.now) }
+    // The whole text of a run at its last place.
+    pub fn run(&mut self, shown: Shown)
+        requires { self.old.len + length (text_of shown) ≤ length self.old.out.now }
+        ensures { Adds self.old self.new (text_of shown.entry) }
     {
-        self.end(place, field, path);
-        self.singles(b'u', us);
-        self.singles(b'r', rs);
-        self.pairs(b'g', gs);
-        self.pairs(b'p', ps);
+        self.end(shown.place, shown.field_end, shown.path_end);
+        self.lines(b'u', 1, shown.field);
+        self.lines(b'r', 1, shown.norms);
+        self.lines(b'g', 2, shown.gradients);
+        self.lines(b'p', 2, shown.points);
     }
 }
 
@@ -68,20 +71,11 @@ pub fn put_refused(out: &mut [u8], k: u64) -> usize
 }
 
 // The same of a run at its last place.
-pub fn put_run(
-    out: &mut [u8],
-    place: u64,
-    field: u64,
-    path: u64,
-    us: &[f64],
-    rs: &[f64],
-    gs: &[f64],
-    ps: &[f64],
-) -> usize
-    requires { 67 + (19 * (length us.now + length rs.now) + 18 * (length gs.now + length ps.now)) ≤ length out.old }
-    ensures { Printed out.old 0 (Text.run_text place field path us.now rs.now gs.now ps.now) result out.new }
+pub fn put_run(out: &mut [u8], shown: Shown) -> usize
+    requires { 67 + (19 * (length shown.field.now + length shown.norms.now) + 18 * (length shown.gradients.now + length shown.points.now)) ≤ length out.old }
+    ensures { Printed out.old 0 (text_of shown.entry) result out.new }
 {
     let mut output = Output { out, len: 0 };
-    output.run(place, field, path, us, rs, gs, ps);
+    output.run(shown);
     output.len
 }

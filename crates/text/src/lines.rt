@@ -36,29 +36,13 @@ impl Output<'_> {
         self.byte(b'\n');
     }
 
-    // As many lines of so many numbers as there are numbers for.
-    fn lines(&mut self, letter: u8, width: usize, xs: &[f64])
+    // As many lines of so many numbers as there are numbers for; what is left of them has no line.
+    pub fn lines(&mut self, letter: u8, width: usize, xs: &[f64])
         requires { (0 < width) × (self.old.len + length (Text.lines letter width xs.now) ≤ length self.old.out.now) }
         ensures { Adds self.old self.new (Text.lines letter width xs.now) }
     {
         for part in xs.chunks_exact(width) {
             self.line(letter, part);
         }
-    }
-
-    // A line for each number.
-    pub fn singles(&mut self, letter: u8, xs: &[f64])
-        requires { self.old.len + length (Text.singles letter xs.now) ≤ length self.old.out.now }
-        ensures { Adds self.old self.new (Text.singles letter xs.now) }
-    {
-        self.lines(letter, 1, xs);
-    }
-
-    // A line for each x and y; a last number without its pair has none.
-    pub fn pairs(&mut self, letter: u8, xs: &[f64])
-        requires { self.old.len + length (Text.pairs letter xs.now) ≤ length self.old.out.now }
-        ensures { Adds self.old self.new (Text.pairs letter xs.now) }
-    {
-        self.lines(letter, 2, xs);
     }
 }

@@ -3,6 +3,7 @@ ghost use Rattle.std.specs.Prelude.{[], ◌∷◌, ◌+◌, ◌≤◌, length};
 ghost use Rattle.text.specs.Put.{Adds};
 
 // The bytes that are lent, and the place behind the text that stands in them.
+// No `write!`, a word of text by it does not prove: std says what it writes where it answers Ok, and of no writer that it does.
 #[derive(Drop)]
 pub struct Output<'a> {
     pub out: &'a mut [u8],

@@ -8,7 +8,7 @@ ghost use Rattle.pde.specs.Work.{Roomy};
 use pde::{Beyond, Crossing, Walk, edges};
 use plane::Point;
 
-// ---- the points of a crossing
+// ---- the points of a crossing, written into the lent path, which is handed on whole with a place in it
 
 // The first k points between p and q, of n parts, written from `at` on.
 pub fn put_points(path: &mut [f64], at: usize, p: Point, q: Point, n: usize, k: usize)
@@ -54,7 +54,7 @@ fn put_closing(path: &mut [f64], at: usize, q: Point, b: Beyond)
     }
 }
 
-// ---- the path after a crossing
+// ---- the path after a crossing. Its ends are numbers, as in `Walk`; `last` is a fact that one of the ends tells, and calls nothing else
 
 // Ends 3, 4, 5; or on into the next triangle, with end 6 where this was the last crossing.
 fn gone(last: bool, w: Walk, q: Point, b: Beyond, k: usize) -> Walk
@@ -117,15 +117,13 @@ fn put_leaving(path: &mut [f64], room: usize, w: Walk, q: Point, n: usize, b: Be
     requires { Roomy path.old room w }
     ensures { path.new ≡ splice path.old (Paths.point_floats * w.points) (Paths.coordinates_of (Paths.added room w (Crossing.Leaves q n b))) }
 {
-    let from = w.position;
-    let points = w.points;
     let between = n.saturating_sub(1);
     let k = between + closes(b);
-    if room - points < k {
+    if room - w.points < k {
         return;
     }
-    put_points(path, 2 * points, from, q, n, between);
-    put_closing(path, 2 * (points + between), q, b);
+    put_points(path, 2 * w.points, w.position, q, n, between);
+    put_closing(path, 2 * (w.points + between), q, b);
 }
 
 // The points of a crossing, behind those of the path.

@@ -85,10 +85,6 @@ once_comes plan words s m p f m' p' d k e st dl =
 
 -- ---- passes in a row
 
--- buffers as long are as roomy
-pub roomy_as_long : {plan : Plan} {m p : List Float} (m' p' : List Float) → Roomy plan m p → length m' ≡ length m → length p' ≡ length p → Roomy plan m' p'
-roomy_as_long m' p' r e h = record { floats_fit = omega (arith, r.floats_fit); path_fit = omega (arith, r.path_fit) }
-
 -- what has come to w is w
 pub came : {w : Work} {s : Stand} {m p : List Float} → Comes w s m p → work m p s ≡ w
 came c = λ i. work (c.floats i) (c.path i) (c.stand i)

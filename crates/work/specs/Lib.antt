@@ -5,7 +5,9 @@ pub mod Record
 pub mod Kinds
 pub mod Dry
 pub mod Seek
+pub mod Laid
 pub mod StandingLaws
 pub mod DryLaws
 pub mod StartedLaws
 pub mod SeekLaws
+pub mod LaidLaws

@@ -1,29 +1,20 @@
 -- What the way to another place asks of the record and the buffers. Definitions only. Assumes nothing.
 use Rattle.std.specs.Prelude.{◌≡◌, List, [], ℕ, ◌+◌, ◌≤◌, Float, Option}
-use Rattle.format.specs.Content.{max_vertices, max_triangles, max_limit, max_room}
 use Rattle.model.specs.Space.{farthest}
 use Rattle.work.specs.declared.Plan.{Plan}
 use Rattle.work.specs.declared.Stand.{Stand}
-use Rattle.work.specs.Memory.{work, begun_again, vectors_put, to_zero}
+use Rattle.work.specs.Memory.{work, begun_again, to_zero}
 use Rattle.work.specs.Ready.{Ready, Standing, Roomy, MarkKeeping}
 use Rattle.work.specs.declared.Kept.{Kept}
 
 -- the filled places of the norms and the path lie within the buffers
 pub record Erasable (plan : Plan) (s : Stand) (floats path : List Float) : Type 0 where
-  pub n_most : plan.n ≤ max_vertices
-  pub t_most : plan.t ≤ max_triangles
-  pub limit-most : plan.limit ≤ max_limit
-  pub room_most : plan.room ≤ max_room
   pub norms_least : 1 ≤ s.norms
   pub norms_most : s.norms ≤ plan.limit + 1
   pub points_most : s.walk.points ≤ plan.room
   pub roomy : Roomy plan floats path
 
--- the vectors begun again, and the whole floats of place 0, which no path bears on; r is r·r, m the floats before, m' after it
-pub record Again (plan : Plan) (words : List ℕ) (m : List Float) (r : Float) (m' : List Float) : Type 0 where
-  pub sum : r ≡ (begun_again plan words m).rs
-  pub floats : m' ≡ vectors_put plan (begun_again plan words m) m
-
+-- the floats of place 0, which no path bears on; r is r·r, m the floats before, m' after it
 pub record Rewinds (plan : Plan) (words : List ℕ) (s : Stand) (m : List Float) (r : Float) (m' : List Float) : Type 0 where
   pub sum : r ≡ (begun_again plan words m).rs
   pub floats : m' ≡ (to_zero plan words (work m [] s)).floats

@@ -1,13 +1,16 @@
 // The work of a run in the three lent buffers: one pass, and passes in a row.
 #![tactic(auto)]
 
-pub mod layout;
+mod laid;
+mod layout;
 pub mod place;
+pub mod vectors;
 
 ghost use Rattle.std.specs.Prelude.{◌≡◌, ◌≤◌, ◌||◌, ltb};
 ghost use Rattle.model.specs.Space.{float_space, word_space, path_space};
 ghost use Rattle.work.specs.Record.{new_run, no_run};
 
+pub use laid::Laid;
 use pde::Walk;
 use plane::Point;
 
@@ -23,7 +26,7 @@ pub struct Plan {
     pub start: Option<Point>,
 }
 
-// How many places of each lent buffer: how many a run needs, by the space rule.
+// How many places of each lent buffer: how many a run needs, by the space rule. Three counts, and no offsets.
 #[derive(Clone, Copy)]
 pub struct Space {
     pub floats: usize,
@@ -57,6 +60,7 @@ impl Space {
 }
 
 // The scalars of a place: how many passes led to it, r·r, how many norms there are, the field's end, where the path stands, and how many crossings were made.
+// Numbers for ends (0 is none) and for the edge that the path came in by (3 is none), and no enums: a record is whatever numbers C hands over, and what they are is tested after the lengths of the lent buffers, so any number has to fit.
 #[derive(Clone, Copy)]
 pub struct Stand {
     pub place: usize,

@@ -1,5 +1,6 @@
-// The scalars of a place with no path yet, and of one whose path found no start.
-ghost use Rattle.std.specs.Prelude.{◌≡◌};
+// The scalars of a place with no path yet, and of one whose path found no start. Ends and the edge are numbers, as in `Stand`.
+ghost use Rattle.std.specs.Prelude.{◌≡◌, leb};
+ghost use Rattle.binary64.specs.Number.{pick};
 ghost use Rattle.pde.specs.Path.{ended};
 ghost use Rattle.model.specs.Run.{nowhere};
 ghost use Rattle.work.specs.Memory as Memory;
@@ -36,9 +37,16 @@ pub fn pathless(place: usize, rs: f64, norms: usize, end: usize) -> Stand
     }
 }
 
+// The field's end where so many norms stand behind the first: 3 where the limit is used up.
+pub fn limit_end(limit: usize, norms: usize) -> usize
+    ensures { result ≡ pick (leb limit norms) 3 0 }
+{
+    if limit <= norms { 3 } else { 0 }
+}
+
 // The field's end at place 0.
 pub fn first_end(limit: usize) -> usize
     ensures { result ≡ first_end limit }
 {
-    if limit == 0 { 3 } else { 0 }
+    limit_end(limit, 0)
 }

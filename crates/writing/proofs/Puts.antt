@@ -1,8 +1,7 @@
 -- The steps of the writer: the settings that are given, and what a section puts down. Assumes nothing.
 use Prim.Native.Nat.{ℕ, suc, ◌+◌, ◌*◌, ◌/◌, ◌%◌, ◌≤◌, ◌<◌}
 use mathlib.Core.Path.{◌≡◌, refl, sym, ap, ap₂, ◌∙◌}
-use mathlib.Core.Bool.{true, cond}
-use lib.Ieee.{Float, nan, inf, fin, binary64, is_nan, to_bits}
+use mathlib.Core.Bool.{cond}
 use Rattle.std.specs.List.{fold}
 use mathlib.Core.List.{List, [], ◌∷◌, ◌++◌, map, append-nil, append_assoc}
 use native.Mathlib.Numerals.{add-one}
@@ -103,12 +102,6 @@ pub section_slots : (n : ℕ) (slots : List (Option code.Setting)) (ss : List Se
 unfolding section
 section_slots n slots ss e = ap (λ (l : List ℕ). bytes 4 n ++ l) (slots_laid slots ∙ ap (λ (l : List Setting). all_bytes 9 (map item_of l)) e)
 
-pub quiet : (x : Float) → is_nan x ≡ true → 0x7ff8_0000_0000_0000 ≡ to_bits binary64 x
-unfolding is_nan to_bits
-quiet nan h = refl
-quiet (inf s) h = cc
-quiet (fin s m e) h = cc
-
 pub byte_put : (m : List ℕ) (at x : ℕ) → x < 256 → set m at x ≡ placed m at (bytes 1 x)
 unfolding bytes
 byte_put m at x h =
@@ -184,3 +177,6 @@ section_down laid m₀ m₁ m at n next xs i e p h =
     p.is
     ∙ ap₂ (λ (z : List ℕ) (l : List _). placed z (at + 4) (laid_all laid l)) e (take_all i xs h)
     ∙ placed-next m₀ at (at + 4) (bytes 4 n) (laid_all laid xs) (ap (λ (k : ℕ). at + k) (sym (length-bytes 4 n)))
+
+pub section_goes : {A : Type 0} (laid : A → List ℕ) (m₁ m : List ℕ) (at next : ℕ) (xs : List A) (i : ℕ) → Down laid m₁ at xs i m next → length xs ≤ i → next ≡ at + length (laid_all laid xs)
+section_goes laid m₁ m at next xs i p h = p.goes ∙ ap (λ (l : List _). at + length (laid_all laid l)) (take_all i xs h)

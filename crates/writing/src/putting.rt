@@ -5,14 +5,15 @@ ghost use Rattle.std.specs.Float.{binary64};
 ghost use Rattle.std.specs.Float.Ieee.{to_bits};
 ghost use Rattle.format.specs.Bytes.{bytes};
 ghost use Rattle.format.specs.Place.{placed};
-ghost use Rattle.format.specs.Setting.{said};
-ghost use Rattle.format.specs.Sheet.{bytes_of, kind_of, value_of};
+ghost use Rattle.format.specs.Sheet.{bytes_of};
 ghost use Rattle.writing.specs.Write.{lent, laid_all, slot_bytes, Fits};
 
 use format::bytes::put;
+use format::faults::pattern;
+use format::items::{kind, value};
 use format::{Content, Setting};
 
-// What a section holds, laid down as bytes.
+// What a section holds, laid down as bytes. The place stands beside the bytes, and each step answers the next one: a struct of both would have to say in each contract that its bytes stay the same ones.
 trait Item: Copy {
     ghost laid: { Self → List ℕ };
 
@@ -21,16 +22,6 @@ trait Item: Copy {
         requires { at + length (laid self) ≤ length out.old }
         ensures down { out.new ≡ placed out.old at (laid self) }
         ensures next { result ≡ at + length (laid self) };
-}
-
-// The pattern of a number; of a NaN, that of the quiet one.
-fn pattern(x: f64) -> u64
-    ensures { result ≡ to_bits binary64 x }
-{
-    if x.is_nan() {
-        return 0x7ff8000000000000;
-    }
-    f64::to_bits(x)
 }
 
 impl Item for f64 {
@@ -63,34 +54,6 @@ impl Item for u8 {
     }
 }
 
-#[tactic(auto, unfolding(format::specs::Sheet::kind_of))]
-fn kind(s: Setting) -> u8
-    ensures { result ≡ kind_of (said s) }
-{
-    match s {
-        Setting::Limit(_) => 1,
-        Setting::Tolerance(_) => 2,
-        Setting::Step(_) => 3,
-        Setting::StartX(_) => 4,
-        Setting::StartY(_) => 5,
-        Setting::Room(_) => 6,
-    }
-}
-
-#[tactic(auto, unfolding(format::specs::Sheet::value_of))]
-fn value(s: Setting) -> u64
-    ensures { result ≡ value_of (said s) }
-{
-    match s {
-        Setting::Limit(v) => v,
-        Setting::Tolerance(x) => pattern(x),
-        Setting::Step(x) => pattern(x),
-        Setting::StartX(x) => pattern(x),
-        Setting::StartY(x) => pattern(x),
-        Setting::Room(v) => v,
-    }
-}
-
 // A setting that is not given takes no place.
 impl Item for Option<Setting> {
     ghost laid = { slot_bytes };
@@ -108,19 +71,21 @@ impl Item for Option<Setting> {
     }
 }
 
-// A count, and the items behind it.
-fn put_section<T: Item>(out: &mut [u8], at: usize, count: u32, items: &[T])
+// A count, and the items behind it; answers where the next section goes.
+fn put_section<T: Item>(out: &mut [u8], at: usize, count: u32, items: &[T]) -> usize
     requires { at + 4 + length (laid_all T.laid items.now) ≤ length out.old }
-    ensures { out.new ≡ placed out.old at (bytes 4 count ++ laid_all T.laid items.now) }
+    ensures down { out.new ≡ placed out.old at (bytes 4 count ++ laid_all T.laid items.now) }
+    ensures next { result ≡ at + 4 + length (laid_all T.laid items.now) }
 {
     put(out, at, &count.to_le_bytes());
     let mut next = at + 4;
     for item in items {
         next = item.put(out, next);
     }
+    next
 }
 
-// The sheet of a content.
+// The sheet of a content. Its counts are u32 by `Fits`: `try_from` would have to refuse what cannot be.
 pub fn put_sheet(content: &Content, out: &mut [u8])
     requires { Fits (lent content.now) (length out.old) }
     ensures { out.new ≡ placed out.old 0 (bytes_of (lent content.now)) }
@@ -130,13 +95,9 @@ pub fn put_sheet(content: &Content, out: &mut [u8])
     let k = content.neighbours.len() as u32;
     let g = content.tags.len() as u32;
     let m = crate::present_count(content.settings) as u32;
-    let at2 = 4 + 8 * content.vertices.len();
-    let at3 = at2 + 4 + 4 * content.triangles.len();
-    let at4 = at3 + 4 + 4 * content.neighbours.len();
-    let at5 = at4 + 4 + content.tags.len();
-    put_section(out, 0, n, content.vertices);
-    put_section(out, at2, t, content.triangles);
-    put_section(out, at3, k, content.neighbours);
-    put_section(out, at4, g, content.tags);
-    put_section(out, at5, m, &crate::slots(content.settings));
+    let at = put_section(out, 0, n, content.vertices);
+    let at = put_section(out, at, t, content.triangles);
+    let at = put_section(out, at, k, content.neighbours);
+    let at = put_section(out, at, g, content.tags);
+    put_section(out, at, m, &crate::slots(content.settings));
 }

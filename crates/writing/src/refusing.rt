@@ -1,4 +1,4 @@
-// What refuses a content, in the reader's order.
+// What refuses a content, in the reader's order. The four lists differ in limit, in how many entries one of them takes, and in the test of an entry: one function of three more parameters would be no plainer.
 
 ghost use Rattle.std.specs.Prelude.{◌≡◌, ◌≤◌};
 ghost use Rattle.refusal.specs.Refusal.{fault};
@@ -55,20 +55,15 @@ fn tags_refusal(xs: &[u8], n: usize) -> Result<(), Refusal>
     each(xs, |x| tag_fault(*x))
 }
 
-fn mesh_refusal(
-    vertices: &[f64],
-    triangles: &[u32],
-    neighbours: &[u32],
-    tags: &[u8],
-) -> Result<(), Refusal>
-    ensures { fault result ≡ mesh_refusal vertices.now triangles.now neighbours.now tags.now }
+fn mesh_refusal(content: &Content) -> Result<(), Refusal>
+    ensures { let c = content.now in fault result ≡ mesh_refusal c.vertices.now c.triangles.now c.neighbours.now c.tags.now }
 {
-    let n = vertices.len() / 2;
-    let t = triangles.len() / 3;
-    vertices_refusal(vertices)?;
-    triangles_refusal(triangles, n)?;
-    neighbours_refusal(neighbours, t)?;
-    tags_refusal(tags, n)
+    let n = content.vertices.len() / 2;
+    let t = content.triangles.len() / 3;
+    vertices_refusal(content.vertices)?;
+    triangles_refusal(content.triangles, n)?;
+    neighbours_refusal(content.neighbours, t)?;
+    tags_refusal(content.tags, n)
 }
 
 fn slot_fault(slot: Option<Setting>) -> Result<(), Refusal>
@@ -91,12 +86,7 @@ fn values_refusal(s: Settings) -> Result<(), Refusal>
 pub fn content_refusal(content: &Content) -> Result<(), Refusal>
     ensures { fault result ≡ refusal_of (lent content.now) }
 {
-    mesh_refusal(
-        content.vertices,
-        content.triangles,
-        content.neighbours,
-        content.tags,
-    )?;
+    mesh_refusal(content)?;
     values_refusal(content.settings)?;
     missing_fault(content.settings)
 }

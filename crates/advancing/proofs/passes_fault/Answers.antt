@@ -1,4 +1,4 @@
--- `calls::passes_fault` meets its contract: a gain is at most the passes asked for, and is counted only where so many would be too much. Assumes nothing.
+-- `advancing::passes_fault` meets its contract: a gain is at most the passes asked for, and is counted only where so many would be too much. Assumes nothing.
 use borrow.Author.Tests.{not-true}
 use mathlib.Core.Path.{sym, ◌∙◌}
 use mathlib.Core.Bool.{true, false}

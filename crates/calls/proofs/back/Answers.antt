@@ -1,11 +1,11 @@
 -- `calls::back` meets its contract: the place sought is the definition's. Assumes nothing.
 use native.Mathlib.Omega.{arith}
 use Rattle.image.specs.Calls.{buffers}
-use Rattle.image.proofs.ExitLaws.{admitted, does_early, back_done}
+use Rattle.image.proofs.ExitLaws.{admitted, refused_early, back_done}
 use Rattle.calls.proofs.back.Goals as goal
 
 pub returns-in_err-held_fault : goal.returns-in_err-held_fault
-returns-in_err-held_fault c = does_early _ _ _ _ _ c.from_residual.ensures.1 c.in_err-held_fault.ensures
+returns-in_err-held_fault c = refused_early _ _ _ _ _ c.from_residual.ensures.1 c.in_err-held_fault.ensures
 
 pub seek-stand-requires : goal.seek-stand-requires
 seek-stand-requires c =

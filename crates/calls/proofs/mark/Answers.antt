@@ -1,11 +1,11 @@
 -- `calls::mark` meets its contract: the record and the floats are kept as the definition keeps them. Assumes nothing.
 use native.Mathlib.Omega.{arith}
 use Rattle.image.specs.Calls.{buffers}
-use Rattle.image.proofs.ExitLaws.{admitted, does_early, mark_done}
+use Rattle.image.proofs.ExitLaws.{admitted, refused_early, mark_done}
 use Rattle.calls.proofs.mark.Goals as goal
 
 pub returns-in_err-held_fault : goal.returns-in_err-held_fault
-returns-in_err-held_fault c = does_early _ _ _ _ _ c.from_residual.ensures.1 c.in_err-held_fault.ensures
+returns-in_err-held_fault c = refused_early _ _ _ _ _ c.from_residual.ensures.1 c.in_err-held_fault.ensures
 
 pub keep-requires : goal.keep-requires
 keep-requires c =

@@ -1,10 +1,10 @@
 -- `calls::return_to_mark` meets its contract: the place sought is the mark's, and a return with no mark is refused after all else. Assumes nothing.
 use Rattle.image.specs.Calls.{buffers}
-use Rattle.image.proofs.ExitLaws.{admitted, does_early, return_late, return_done}
+use Rattle.image.proofs.ExitLaws.{admitted, refused_early, return_late, return_done}
 use Rattle.calls.proofs.return_to_mark.Goals as goal
 
 pub returns-in_err-held_fault : goal.returns-in_err-held_fault
-returns-in_err-held_fault c = does_early _ _ _ _ _ c.from_residual.ensures.1 c.in_err-held_fault.ensures
+returns-in_err-held_fault c = refused_early _ _ _ _ _ c.from_residual.ensures.1 c.in_err-held_fault.ensures
 
 pub returns-in_default : goal.returns-in_default
 returns-in_default c = return_late _ _ c.in_ok-held_fault.ensures c.in_default.is

@@ -19,4 +19,4 @@ pub returns-then-is_empty : goal.returns-then-is_empty
 returns-then-is_empty c = length-short _ _ _ _ c.in_ok-held_fault.ensures refl (lt-leb 1 (length c.args.out.now) (grind (arith, nat_tests)))
 
 pub returns : goal.returns
-returns c = length_made _ _ _ _ c.in_ok-held_fault.ensures refl (grind (arith, nat_tests)) _ (rw (← c.run_from-run.ensures, ← c.points.ensures) c.length.ensures)
+returns c = length_made _ _ _ _ c.in_ok-held_fault.ensures refl (grind (arith, nat_tests)) _ (rw (← c.run.ensures, ← c.points.ensures) c.length.ensures)

@@ -1,4 +1,5 @@
 -- `open` meets its contract: a refusal of the sheet or of the space leaves every lent place, and else the run stands at place 0. Assumes nothing.
+use Rattle.sheet.specs.ItemLaws.{is_accepted}
 use Rattle.image.specs.Calls.{buffers}
 use Rattle.image.specs.CallLaws.{Counted}
 use Rattle.opening.proofs.LawsPlace.{bytes_fit, counted_read, space_lacks, suffices, answers_short, answers_open, answers_refused}
@@ -17,6 +18,9 @@ returns-then-lacks c =
     let s = c.space.ensures in
     answers_short _ (bytes_fit c.type_inv.sheet) _ c.in_ok-h.ensures (buffers _ _ _) _ c.plan_of-plan.ensures
     (space_lacks c.plan_of-plan.result _ _ _ s.floats s.words s.path c.lacks.ensures c.if-lacks.true)
+
+pub invariant_of-accepted : goal.invariant_of-accepted
+invariant_of-accepted c = record { below = bytes_fit c.type_inv.sheet; is = is_accepted _ _ c.in_ok-h.ensures }
 
 pub place_zero-run-requires : goal.place_zero-run-requires
 place_zero-run-requires c =

@@ -9,12 +9,12 @@ use borrow.Author.Rules.{rules}
 use Rattle.printing.proofs.print_sheet.Goals as goal
 
 pub returns-then-sheet-gt-SHEET : goal.returns-then-sheet-gt-SHEET
-returns-then-sheet-gt-SHEET c = long_prints _ _ c.if-sheet-gt-SHEET.true (rw c.number.ensures at c.put_refused.ensures)
+returns-then-sheet-gt-SHEET c = long_prints _ _ c.if-sheet-gt-SHEET.true c.put_refusal.ensures
 
 pub returns-in-Err : goal.returns-in-Err
 returns-in-Err c =
     refused_prints _ (as_places (buffers c.args.floats.now c.args.words.now c.args.path.now) (search rules) (search rules) (search rules)) _ c.if-sheet-gt-SHEET.false _ _ c.in-Err.ensures (refuses_some _)
-    (rw c.number-in-Err.ensures at c.put_refused-in-Err.ensures)
+    c.put_refusal-in-Err.ensures
 
 pub returns-in-Ok : goal.returns-in-Ok
 returns-in-Ok c =

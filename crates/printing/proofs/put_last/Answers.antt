@@ -1,17 +1,13 @@
 -- `put_last` meets its contract: the advance is refused, or what it leads to is shown. Assumes nothing.
 use mathlib.Core.Path.{refl}
-use native.Mathlib.Omega.{arith}
 use Rattle.image.proofs.RefusalLaws.{refuses_some}
 use Rattle.printing.proofs.LawsText.{printed_as, last_refused, last_shown}
 use Rattle.printing.proofs.put_last.Goals as goal
 
-pub put_refused-requires : goal.put_refused-requires
-put_refused-requires c = omega (arith, c.requires.fits)
-
 pub returns-in-Err : goal.returns-in-Err
 returns-in-Err c =
     let done = c.in-Err.ensures in
-    record { text = printed_as _ c.put_refused.ensures (rw c.number.ensures (last_refused _ _ _ done.said (refuses_some _))); held = done.held }
+    record { text = printed_as _ c.put_refusal.ensures (last_refused _ _ _ done.said (refuses_some _)); held = done.held }
 
 pub returns-in-Ok : goal.returns-in-Ok
 returns-in-Ok c =

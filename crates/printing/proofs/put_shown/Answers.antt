@@ -5,9 +5,9 @@ use Rattle.printing.proofs.put_shown.Goals as goal
 pub put_run-requires : goal.put_run-requires
 put_run-requires c =
     let a = c.args in
-    shown_room a.run a.floats.now a.path.now a.out.now _ _ _ _ c.field-us.ensures c.norms-rs.ensures c.gradients-gs.ensures c.points-ps.ensures c.requires
+    shown_room a.run a.floats.now a.path.now a.out.now _ _ _ _ c.field.ensures c.norms.ensures c.gradients.ensures c.points.ensures c.requires
 
 pub returns : goal.returns
 returns c =
     let a = c.args in
-    shown_put a.run a.floats.now a.path.now _ _ _ _ c.field-us.ensures c.norms-rs.ensures c.gradients-gs.ensures c.points-ps.ensures c.put_run.ensures
+    shown_put a.run a.floats.now a.path.now _ _ _ _ c.field.ensures c.norms.ensures c.gradients.ensures c.points.ensures c.put_run.ensures

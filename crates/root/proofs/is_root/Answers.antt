@@ -1,6 +1,6 @@
 -- `root::is_root` meets its contract: the pattern is that of the exponent's half and of q + 1, which is nearest where the tests say yes (`next_is`). Assumes nothing.
 use Rattle.std.proofs.Common.{◌≡◌, ℕ, ◌+◌, ◌-◌, ◌*◌, ◌/◌, ◌%◌, ◌^◌, ◌<◌, ◌≤◌, true, ◌&&◌, ltb, leb, sym, ◌∙◌, arith, ltb-true, leb-true}
-use mathlib.Core.Bool.{false≢true, and-eq-true_iff}
+use mathlib.Core.Bool.{and-eq-true_iff}
 use Rattle.binary64.proofs.RootGuess.{next_is}
 use Rattle.binary64.proofs.RootLaws.{pattern_is}
 use Rattle.root.proofs.is_root.Goals as goal
@@ -8,9 +8,6 @@ use Rattle.root.proofs.is_root.Goals as goal
 -- what the two tests tell
 told : (q rest most : ℕ) → (ltb q rest && leb rest most) ≡ true → (q < rest) × (rest ≤ most)
 told q rest most e = let both = (and-eq-true_iff (ltb q rest) (leb rest most)).0 e in (ltb-true q rest both.0, leb-true rest most both.1)
-
-pub returns-then-q : goal.returns-then-q
-returns-then-q c = λ e. absurd (false≢true e)
 
 pub returns : goal.returns
 returns c = λ e.

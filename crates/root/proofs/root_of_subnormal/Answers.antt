@@ -11,20 +11,10 @@ moved c = shift c.args.digits c.requires.0 c.requires.1
 pub overflow_sub-z : goal.overflow_sub-z
 overflow_sub-z c = let s = moved c in omega arith
 
-pub overflow_cast-z : goal.overflow_cast-z
-overflow_cast-z c = let s = moved c in omega arith
-
-pub overflow_sub-z-2 : goal.overflow_sub-z-2
-overflow_sub-z-2 c = let s = moved c in omega arith
-
-pub overflow_cast-z-2 : goal.overflow_cast-z-2
-overflow_cast-z-2 c = let s = moved c in omega arith
-
-pub overflow_shl-digits : goal.overflow_shl-digits
-overflow_shl-digits c = let s = moved c in omega arith
-
 pub root_pattern-requires : goal.root_pattern-requires
-root_pattern-requires c = let s = moved c in omega arith
+root_pattern-requires c = let s = moved c.before in omega (arith, c.from.ensures)
 
 pub returns : goal.returns
-returns c = let s = moved c.before in c.root_pattern.ensures ∙ subnormal_is c.args.digits (count_leading_zeros 64 c.args.digits - 11) s.is s.raises.long
+returns c =
+    let s = moved c.before.before in
+    (rw c.from.ensures at c.root_pattern.ensures) ∙ subnormal_is c.args.digits (count_leading_zeros 64 c.args.digits - 11) s.is s.raises.long

@@ -10,7 +10,7 @@ use Rattle.std.proofs.lemmas.Result.{err_from_is_err_and}
 use Rattle.format.specs.Bytes.{number}
 use Rattle.format.specs.LeLaws.{from_eight}
 use Rattle.format.specs.Refusal.{setting_fault}
-use Rattle.sections.proofs.Reading.{Item, none_is, err_fault, ok_said, read_none, read_all, read_low, read-fault, read_more}
+use Rattle.sections.proofs.Reading.{Item, taken_apart, none_is, err_fault, ok_said, read_none, read_all, read_low, read-fault, read_more}
 use Rattle.sections.proofs.read_items.Goals as goal
 
 pub loop-item-init : goal.loop-item-init
@@ -28,41 +28,26 @@ pub returns-in_err-setting : goal.returns-in_err-setting
 returns-in_err-setting c =
     let p = err_from_is_err_and c.from_residual.result c.from_residual.ensures.1 in
     let l = c.loop-item in
-    let x = get_or c.args.items.now l.item-index [] in
-    let k = get_or x 0 0 in
-    let n : length x ≡ 9 = c.told-items l.item-index c.loop-item-test.true in
-    let o : length x - 8 ≡ 1 = omega arith in
-    let m : c.unwrap.result.now ≡ drop (length x - 8) x = search rules in
-    let v : c.from_le_bytes.result ≡ number 8 (drop 1 x) = c.from_le_bytes.ensures ∙ from_eight c.unwrap.result.now ∙ ap (number 8) (m ∙ ap (λ (i : ℕ). drop i x) o) in
-    let e : Item c.args.items.now l.item-index k c.from_le_bytes.result = record { below = c.loop-item-test.true; small = omega arith; first = refl; rest = v } in
-    rw (p.1, p.2) (read-fault c.args.items.now l.last l.settings l.item-index k _ l.invariant e _ c.if-kind-last.false (err_fault _ _ c.in_err-setting.ensures))
+    let e = taken_apart c.args.items.now l.item-index c.unwrap.result.now c.from_le_bytes.result c.loop-item-test.true (omega arith) (c.told-items l.item-index c.loop-item-test.true) (search rules)
+    (c.from_le_bytes.ensures ∙ from_eight c.unwrap.result.now) in
+    rw (p.1, p.2) (read-fault c.args.items.now l.last l.settings l.item-index _ _ l.invariant e _ c.if-kind-last.false (err_fault _ _ c.in_err-setting.ensures))
 
 pub returns-in_err-setting_fault : goal.returns-in_err-setting_fault
 returns-in_err-setting_fault c =
     let p = err_from_is_err_and c.from_residual-in_err-setting_fault.result c.from_residual-in_err-setting_fault.ensures.1 in
     let l = c.loop-item in
-    let x = get_or c.args.items.now l.item-index [] in
-    let k = get_or x 0 0 in
-    let n : length x ≡ 9 = c.told-items l.item-index c.loop-item-test.true in
-    let o : length x - 8 ≡ 1 = omega arith in
-    let m : c.unwrap.result.now ≡ drop (length x - 8) x = search rules in
-    let v : c.from_le_bytes.result ≡ number 8 (drop 1 x) = c.from_le_bytes.ensures ∙ from_eight c.unwrap.result.now ∙ ap (number 8) (m ∙ ap (λ (i : ℕ). drop i x) o) in
-    let e : Item c.args.items.now l.item-index k c.from_le_bytes.result = record { below = c.loop-item-test.true; small = omega arith; first = refl; rest = v } in
+    let e = taken_apart c.args.items.now l.item-index c.unwrap.result.now c.from_le_bytes.result c.loop-item-test.true (omega arith) (c.told-items l.item-index c.loop-item-test.true) (search rules)
+    (c.from_le_bytes.ensures ∙ from_eight c.unwrap.result.now) in
     rw (p.1, p.2)
-    (read-fault c.args.items.now l.last l.settings l.item-index k _ l.invariant e _ c.if-kind-last.false
+    (read-fault c.args.items.now l.last l.settings l.item-index _ _ l.invariant e _ c.if-kind-last.false
     (c.in_err-setting_fault.ensures ∙ ap setting_fault (ok_said _ _ c.in_ok-setting.ensures)))
 
 pub loop-item-preserved : goal.loop-item-preserved
 loop-item-preserved c =
     let l = c.loop-item in
-    let x = get_or c.args.items.now l.item-index [] in
-    let k = get_or x 0 0 in
-    let n : length x ≡ 9 = c.told-items l.item-index c.loop-item-test.true in
-    let o : length x - 8 ≡ 1 = omega arith in
-    let m : c.unwrap.result.now ≡ drop (length x - 8) x = search rules in
-    let v : c.from_le_bytes.result ≡ number 8 (drop 1 x) = c.from_le_bytes.ensures ∙ from_eight c.unwrap.result.now ∙ ap (number 8) (m ∙ ap (λ (i : ℕ). drop i x) o) in
-    let e : Item c.args.items.now l.item-index k c.from_le_bytes.result = record { below = c.loop-item-test.true; small = omega arith; first = refl; rest = v } in
-    read_more c.args.items.now l.last l.settings l.item-index k _ l.invariant e _ _ c.if-kind-last.false (ok_said _ _ c.in_ok-setting.ensures) c.in_ok-setting_fault.ensures c.add-settings.ensures
+    let e = taken_apart c.args.items.now l.item-index c.unwrap.result.now c.from_le_bytes.result c.loop-item-test.true (omega arith) (c.told-items l.item-index c.loop-item-test.true) (search rules)
+    (c.from_le_bytes.ensures ∙ from_eight c.unwrap.result.now) in
+    read_more c.args.items.now l.last l.settings l.item-index _ _ l.invariant e _ _ c.if-kind-last.false (ok_said _ _ c.in_ok-setting.ensures) c.in_ok-setting_fault.ensures c.add-settings.ensures
 
 pub returns : goal.returns
 returns c = read_all _ _ _ _ c.loop-item.invariant c.loop-item-test.false

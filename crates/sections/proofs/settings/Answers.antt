@@ -10,20 +10,19 @@ use Rattle.format.specs.Sheet.{settings_fault}
 use Rattle.format.specs.TriesLaws.{fault_first}
 use Rattle.format.specs.LeLaws.{numbers_pieces}
 use Rattle.sections.specs.Steps.{items_read, settings_read}
-use Rattle.sections.proofs.Heads.{over-rule}
 use Rattle.sections.proofs.Reading.{refused_by}
 use Rattle.sections.proofs.Steps.{settings_read_lem}
 use Rattle.sections.proofs.settings.Goals as goal
 
-pub returns-in_err-m : goal.returns-in_err-m
+pub returns-in_err-section : goal.returns-in_err-section
 unfolding settings_read settings_fault
-returns-in_err-m c =
+returns-in_err-section c =
     let p = err_from_is_err_and c.from_residual.result c.from_residual.ensures.1 in
-    rw (p.1, p.2) (refused_by _ _ (fault_first _ _ (c.in_err-m.ensures.refused ∙ over-rule 6 9 c.args.s.now)))
+    rw (p.1, p.2) (refused_by _ _ (fault_first _ _ (c.in_err-section.ensures.refused)))
 
 pub returns : goal.returns
 returns c =
     let s = c.args.s.now in
     c.read_items.ensures
-    ∙ ap items_read (ap (map (number 9)) c.numbers.ensures ∙ numbers_pieces 9 c.in_ok-m.m (drop 4 s) ∙ ap (λ (n : ℕ). numbers 9 n (drop 4 s)) c.in_ok-m.ensures.counted)
-    ∙ settings_read_lem s (sym (c.in_ok-m.ensures.refused ∙ over-rule 6 9 s))
+    ∙ ap items_read (ap (map (number 9)) c.numbers.ensures ∙ numbers_pieces 9 c.in_ok-section.section.count (drop 4 s) ∙ ap (λ (n : ℕ). numbers 9 n (drop 4 s)) c.in_ok-section.ensures.follows.counted)
+    ∙ settings_read_lem s (sym c.in_ok-section.ensures.refused)

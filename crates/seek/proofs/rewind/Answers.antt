@@ -1,6 +1,11 @@
 -- `rewind` meets its contract: each part of the floats is what its function ensures. Assumes nothing.
+use native.Mathlib.Omega.{arith}
+use Rattle.work.proofs.LawsVectors.{starts}
 use Rattle.seek.proofs.LawsSeek.{rewinds}
 use Rattle.seek.proofs.rewind.Goals as goal
 
+pub begin-rs-requires-clause-starts : goal.begin-rs-requires-clause-starts
+begin-rs-requires-clause-starts c = starts c.args.laid.now.plan.n c.args.laid.now.plan.t _ c.args.laid.now.ready.sound (omega (arith, c.requires.1))
+
 pub returns : goal.returns
-returns c = rewinds _ _ _ _ _ _ _ _ _ _ c.vectors_again-rs.ensures c.erase_gradients.ensures c.erase_norms.ensures c.at_norms-k.ensures c.sqrt.ensures
+returns c = rewinds _ _ _ _ _ _ _ _ _ _ c.begin-rs.ensures c.erase_gradients.ensures c.erase_norms.ensures c.at_norms-k.ensures c.sqrt.ensures

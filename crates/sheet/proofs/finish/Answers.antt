@@ -8,15 +8,15 @@ use Rattle.sheet.proofs.finish.Goals as goal
 pub returns-then-s-m : goal.returns-then-s-m
 returns-then-s-m c =
     let a = c.args in
-    finish_left a.n a.t a.settings a.s.now c.count-m.result c.count-m.ensures c.requires.fits (omega arith)
+    finish_left a.mesh.n a.mesh.t a.settings a.mesh.behind.now c.count-m.result c.count-m.ensures.read c.requires.fits (omega arith)
 
 pub returns-in_err-missing_fault : goal.returns-in_err-missing_fault
 returns-in_err-missing_fault c =
     let a = c.args in
     let p = err_from_is_err_and c.from_residual.result c.from_residual.ensures.1 in
-    rw (p.1, p.2) (finish_missing a.n a.t a.settings a.s.now c.count-m.result c.count-m.ensures _ (omega arith) c.in_err-missing_fault.ensures)
+    rw (p.1, p.2) (finish_missing a.mesh.n a.mesh.t a.settings a.mesh.behind.now c.count-m.result c.count-m.ensures.read _ (omega arith) c.in_err-missing_fault.ensures)
 
 pub returns : goal.returns
 returns c =
     let a = c.args in
-    finish_whole a.n a.t a.settings a.s.now c.count-m.result c.count-m.ensures _ (omega arith) c.in_ok-missing_fault.ensures c.header_of.ensures
+    finish_whole a.mesh.n a.mesh.t a.settings a.mesh.behind.now c.count-m.result c.count-m.ensures.read _ (omega arith) c.in_ok-missing_fault.ensures c.header_of.ensures

@@ -19,43 +19,28 @@ returns-in_err-content_refusal c =
 
 pub overflow_add-size-2 : goal.overflow_add-size-2
 overflow_add-size-2 c =
-    let a = c.args.content.now in
-    let d = lent a in
-    let s : Small d = small d c.in_ok-content_refusal.ensures in
-    let m : c.present_count-m.result ≡ length (present a.settings) = c.present_count-m.ensures in
-    omega arith
+    let s : Small (lent c.args.content.now) = small _ c.in_ok-content_refusal.ensures in
+    omega (arith, c.present_count-m.ensures)
 
 pub overflow_add-size-3 : goal.overflow_add-size-3
 overflow_add-size-3 c =
-    let a = c.args.content.now in
-    let d = lent a in
-    let s : Small d = small d c.in_ok-content_refusal.ensures in
-    let m : c.present_count-m.result ≡ length (present a.settings) = c.present_count-m.ensures in
-    omega arith
+    let s : Small (lent c.args.content.now) = small _ c.in_ok-content_refusal.ensures in
+    omega (arith, c.present_count-m.ensures)
 
 pub overflow_add-size-4 : goal.overflow_add-size-4
 overflow_add-size-4 c =
-    let a = c.args.content.now in
-    let d = lent a in
-    let s : Small d = small d c.in_ok-content_refusal.ensures in
-    let m : c.present_count-m.result ≡ length (present a.settings) = c.present_count-m.ensures in
-    omega arith
+    let s : Small (lent c.args.content.now) = small _ c.in_ok-content_refusal.ensures in
+    omega (arith, c.present_count-m.ensures)
 
 pub overflow_mul-size-4 : goal.overflow_mul-size-4
 overflow_mul-size-4 c =
-    let a = c.args.content.now in
-    let d = lent a in
-    let s : Small d = small d c.in_ok-content_refusal.ensures in
-    let m : c.present_count-m.result ≡ length (present a.settings) = c.present_count-m.ensures in
-    omega arith
+    let s : Small (lent c.args.content.now) = small _ c.in_ok-content_refusal.ensures in
+    omega (arith, c.present_count-m.ensures)
 
 pub overflow_add-size-5 : goal.overflow_add-size-5
 overflow_add-size-5 c =
-    let a = c.args.content.now in
-    let d = lent a in
-    let s : Small d = small d c.in_ok-content_refusal.ensures in
-    let m : c.present_count-m.result ≡ length (present a.settings) = c.present_count-m.ensures in
-    omega arith
+    let s : Small (lent c.args.content.now) = small _ c.in_ok-content_refusal.ensures in
+    omega (arith, c.present_count-m.ensures)
 
 pub returns-then-out-size : goal.returns-then-out-size
 returns-then-out-size c =

@@ -4,10 +4,10 @@ use Rattle.sparse.proofs.LawsRow.{left_none, left_step, left_done}
 use Rattle.sparse.proofs.rest.Goals as goal
 
 pub loop-e-init : goal.loop-e-init
-loop-e-init c = left_none _ _ _ _
+loop-e-init c = left_none _ _ _ _ _ _
 
 pub loop-e-preserved : goal.loop-e-preserved
-loop-e-preserved c = left_step (c.loop-e.e + 1) c.loop-e.invariant c.requires (omega arith) refl c.term-sum.ensures
+loop-e-preserved c = left_step (c.loop-e.e + 1) c.loop-e.invariant c.requires.2 (omega arith) (omega arith) refl c.term-sum.ensures
 
 pub returns : goal.returns
 returns c = left_done c.loop-e.invariant (omega arith)

@@ -3,4 +3,4 @@ use Rattle.sparse.proofs.LawsRow.{Left}
 use Rattle.sparse.proofs.rest.Given as goal
 
 abbrev pub invariant-loop-e : goal.invariant-loop-e
-invariant-loop-e l = Left l.cols l.values l.x l.partial l.e l.sum
+invariant-loop-e l = Left l.cols l.values l.x l.partial l.from l.to l.e l.sum

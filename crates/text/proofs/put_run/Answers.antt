@@ -5,7 +5,9 @@ use Rattle.text.specs.TextLaws.{run_room}
 use Rattle.text.proofs.put_run.Goals as goal
 
 pub run-requires : goal.run-requires
-run-requires c = let a = c.args in run_room a.place a.field a.path a.us.now a.rs.now a.gs.now a.ps.now 0 _ (omega arith)
+run-requires c = let s = c.args.shown in run_room s.place s.field_end s.path_end s.field.now s.norms.now s.gradients.now s.points.now 0 _ (omega arith)
 
 pub returns : goal.returns
-returns c = let a = c.args in printed c.run.ensures.put (search rules) (run_room a.place a.field a.path a.us.now a.rs.now a.gs.now a.ps.now 0 _ (omega arith))
+returns c =
+    let s = c.args.shown in
+    printed c.run.ensures.put (search rules) (run_room s.place s.field_end s.path_end s.field.now s.norms.now s.gradients.now s.points.now 0 _ (omega arith))

@@ -4,11 +4,8 @@ use native.Mathlib.Omega.{arith}
 use mathlib.Core.Path.{refl}
 use Rattle.std.proofs.lemmas.Result.{err_from_is_err_and}
 use Rattle.std.specs.Fn.{FnReturnsAt}
-use Rattle.format.specs.TriesLaws.{tries_more, tries_until, tries_all}
+use Rattle.format.specs.TriesLaws.{tries_more, tries_until}
 use Rattle.format.proofs.faults.each.Goals as goal
-
-pub loop-x-init : goal.loop-x-init
-loop-x-init g c = λ r t. t
 
 pub returns-in_err-test : goal.returns-in_err-test
 returns-in_err-test g c =
@@ -17,6 +14,3 @@ returns-in_err-test g c =
 
 pub loop-x-preserved : goal.loop-x-preserved
 loop-x-preserved g c = tries_more (FnReturnsAt g.F.Fn c.args.test) c.args.xs.now c.loop-x.x-index c.x-item.result (omega arith) c.x-item.is (record { shown = _; shows = refl; says = record { met = c.in_ok-test.ensures } }) c.loop-x.invariant
-
-pub returns : goal.returns
-returns g c = tries_all (FnReturnsAt g.F.Fn c.args.test) c.args.xs.now c.loop-x.x-index (omega arith) c.loop-x.invariant

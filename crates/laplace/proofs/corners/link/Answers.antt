@@ -32,12 +32,6 @@ loop-c-preserved c =
       links = scan_links _ _ _ _ _ _ b c.loop-c-test.true s.within s.heads s.links;
     }
 
-pub returns-clause-first : goal.returns-clause-first
-returns-clause-first c =
-    let s = c.loop-c.invariant in
-    let z : c.loop-c.c ≡ 0 = omega arith in
-    rw (z, c.fill.ensures.len) at s.heads
-
 pub returns-clause-next : goal.returns-clause-next
 returns-clause-next c =
     let s = c.loop-c.invariant in

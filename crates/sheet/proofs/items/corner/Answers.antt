@@ -1,17 +1,24 @@
 -- `sheet::items::corner` meets its contract: an item that is whole is read, and else the answer is 0.
 -- Assumes nothing.
+use native.Mathlib.Omega.{arith}
 use mathlib.Core.Path.{sym, ap, ◌∙◌}
-use borrow.Author.Tests.{lt-ltb, le-ltb}
-use Rattle.format.specs.Bytes.{number}
+use lib.Dec.{ltb}
+use Rattle.format.specs.LeLaws.{from_four}
 use Rattle.format.specs.RefusalLaws.{pick_true, pick_false}
-use Rattle.format.specs.SectionLaws.{part_from}
 use Rattle.sheet.specs.Items.{whole_in}
+use Rattle.sheet.proofs.Pieces.{in_item}
 use Rattle.sheet.proofs.items.corner.Goals as goal
 
-pub returns-then-i-part : goal.returns-then-i-part
+pub returns-in-Some : goal.returns-in-Some
 unfolding whole_in
-returns-then-i-part c = c.first_u32.ensures ∙ ap (number 4) (part_from _ c.args.part.now) ∙ sym (pick_true _ _ (lt-ltb _ _ c.if-i-part.true))
+returns-in-Some c =
+    let a = c.args in
+    let found = c.in-Some.ensures.lookup in
+    let items = c.as_chunks.ensures in
+    c.from_le_bytes.ensures ∙ from_four c.in-Some.item.now
+    ∙ in_item 4 a.i a.part.now _ c.in-Some.item.now items.front items.front_len found.3.0 found.1 4 0 _ (omega arith) (omega arith)
+    ∙ sym (pick_true _ _ (sym (found.0 ∙ ap (ltb a.i) items.front_len)))
 
-pub returns : goal.returns
+pub returns-in-None : goal.returns-in-None
 unfolding whole_in
-returns c = sym (pick_false _ _ (le-ltb _ _ c.if-i-part.false))
+returns-in-None c = sym (pick_false _ _ (sym (c.in-None.ensures.lookup.0 ∙ ap (ltb c.args.i) c.as_chunks.ensures.front_len)))

@@ -1,16 +1,35 @@
 -- `sheet::items::vertex` meets its contract: a point that is whole is read, and else the answer is (+0, +0).
 -- Assumes nothing.
-use mathlib.Core.Path.{sym, ap₂, ◌∙◌}
-use borrow.Author.Tests.{lt-ltb, le-ltb}
-use Rattle.format.specs.RefusalLaws.{pick_true, pick_false}
+use native.Mathlib.Omega.{arith}
+use borrow.Author.Rules.{rules}
+use mathlib.Core.Path.{◌≡◌, sym, ap, ap₂, ◌∙◌}
+use Prim.Native.Nat.{ℕ, ◌+◌, ◌*◌, ◌-◌}
+use lib.Dec.{ltb}
+use lib.ListN.{length, take, drop}
 use Rattle.plane.specs.Plane.{point}
-use Rattle.sheet.specs.Items.{vertex_in}
+use Rattle.format.specs.Bytes.{number}
+use Rattle.format.specs.LeLaws.{number_take}
+use Rattle.format.specs.RefusalLaws.{pick_true, pick_false}
+use Rattle.sheet.specs.Items.{real_in, vertex_in}
+use Rattle.sheet.proofs.Pieces.{in_item}
 use Rattle.sheet.proofs.items.vertex.Goals as goal
 
-pub returns-then-i-part : goal.returns-then-i-part
+pub returns-in-Some : goal.returns-in-Some
 unfolding vertex_in
-returns-then-i-part c = ap₂ point c.real_at-x.ensures c.real_at-y.ensures ∙ sym (pick_true _ _ (lt-ltb _ _ c.if-i-part.true))
+returns-in-Some c =
+    let a = c.args in
+    let item = c.in-Some.item.now in
+    let found = c.in-Some.ensures.lookup in
+    let items = c.as_chunks.ensures in
+    let l : length item ≡ 16 = search rules in
+    let first : c.unwrap.result.now ≡ take 8 item = search rules in
+    let last : c.unwrap-in-Some.result.now ≡ drop (length item - 8) item = search rules in
+    let o : length item - 8 ≡ 8 = omega arith in
+    let at = in_item 16 a.i a.part.now _ item items.front items.front_len found.3.0 found.1 8 in
+    let x : number 8 c.unwrap.result.now ≡ number 8 (drop (16 * a.i) a.part.now) = ap (number 8) first ∙ number_take 8 item ∙ at 0 _ (omega arith) (omega arith) in
+    let y : number 8 c.unwrap-in-Some.result.now ≡ number 8 (drop (16 * a.i + 8) a.part.now) = ap (number 8) (last ∙ ap (λ (n : ℕ). drop n item) o) ∙ at 8 _ (omega arith) (omega arith) in
+    ap₂ point (c.real-x.ensures ∙ ap real_in x) (c.real-y.ensures ∙ ap real_in y) ∙ sym (pick_true _ _ (sym (found.0 ∙ ap (ltb a.i) items.front_len)))
 
-pub returns : goal.returns
+pub returns-in-None : goal.returns-in-None
 unfolding vertex_in
-returns c = sym (pick_false _ _ (le-ltb _ _ c.if-i-part.false))
+returns-in-None c = sym (pick_false _ _ (sym (c.in-None.ensures.lookup.0 ∙ ap (ltb c.args.i) c.as_chunks.ensures.front_len)))

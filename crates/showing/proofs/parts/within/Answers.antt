@@ -13,5 +13,5 @@ returns-in_default-get c = within_none _ _ _ (omega (arith, c.in-Some.ensures.lo
 pub returns : goal.returns
 returns c =
     let rest = c.in-Some.ensures.lookup.0 in
-    let part = c.in-Some-get.ensures.lookup.0 in
-    within_all _ _ _ _ _ rest.2 rest.3 part.1 part.2
+    let shown = c.in-Some-get.ensures.lookup.0 in
+    within_all _ _ _ _ _ rest.2 rest.3 shown.1 shown.2

@@ -1,6 +1,5 @@
 -- With the digits that are left put down, the bytes are what they have to be. Assumes nothing.
-use native.Mathlib.Nat.{mod-lt}
-use Rattle.std.proofs.Common.{arith, refl, ap, ◌∙◌, ◌≡◌, ◌%◌, ◌<◌, ◌+◌, ◌-◌, ◌/◌, ℕ}
+use Rattle.std.proofs.Common.{arith, refl, ap, ◌∙◌, ◌≡◌, ◌+◌, ◌-◌, ◌/◌, ℕ}
 use lib.ListN.{set, length-set}
 use Rattle.stretch.specs.Stretch.{splice}
 use Rattle.stretch.specs.StretchLaws.{splice_all}
@@ -10,12 +9,6 @@ use Rattle.text.proofs.digits.fill_digits.Goals as goal
 
 pub loop-i-init : goal.loop-i-init
 loop-i-init c = record { within = omega arith; long = refl; is = splice_all _ _ (length_digits _ _ _) }
-
-pub glyph-requires : goal.glyph-requires
-glyph-requires c =
-    let a = c.args in
-    let h : c.loop-i.rest % a.base < a.base = mod-lt _ (omega arith) in
-    omega arith
 
 pub loop-i-preserved : goal.loop-i-preserved
 loop-i-preserved c =

@@ -7,15 +7,6 @@ use Rattle.text.specs.Text.{places}
 use Rattle.text.specs.TextLaws.{places_few, places-more, places-most}
 use Rattle.text.proofs.digits.places.Goals as goal
 
-pub loop-rest-init : goal.loop-rest-init
-loop-rest-init c = (omega arith, omega arith, omega arith)
-
-pub overflow_add-k : goal.overflow_add-k
-overflow_add-k c = omega arith
-
-pub loop-rest-smaller : goal.loop-rest-smaller
-loop-rest-smaller c = omega arith
-
 pub loop-rest-preserved : goal.loop-rest-preserved
 loop-rest-preserved c =
     let l = c.loop-rest in

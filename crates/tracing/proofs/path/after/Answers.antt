@@ -1,4 +1,4 @@
--- `path::after` meets its contract, by the crossing: ends 1 and 2, or what `left_at` ensures. Assumes nothing.
+-- `path::after` meets its contract, by the crossing: ends 1 and 2. Assumes nothing.
 use Rattle.tracing.proofs.PointLaws.{walk_dull, walk_stuck}
 use Rattle.std.proofs.Common.{refl}
 use Rattle.tracing.proofs.path.after.Goals as goal
@@ -8,6 +8,3 @@ returns-in-Dull c = walk_dull _ _ _ _ _ c.in-Dull.is refl
 
 pub returns-in-Stuck : goal.returns-in-Stuck
 returns-in-Stuck c = walk_stuck _ _ _ _ _ c.in-Stuck.is refl
-
-pub returns-in-Leaves : goal.returns-in-Leaves
-returns-in-Leaves c = rw c.in-Leaves.is c.left_at.ensures

@@ -1,10 +1,7 @@
--- `path::put_added` meets its contract, by the crossing: ends 1 and 2 put nothing, and `put_leaving` ensures the rest. Assumes nothing.
+-- `path::put_added` meets its contract, by the crossing: ends 1 and 2 put nothing. Assumes nothing.
 use Rattle.tracing.proofs.PointLaws.{put_dull, put_stuck}
 use Rattle.std.proofs.Common.{⊎_elim}
 use Rattle.tracing.proofs.path.put_added.Goals as goal
-
-pub returns-in-Leaves : goal.returns-in-Leaves
-returns-in-Leaves c = rw c.in-Leaves.is c.put_leaving.ensures
 
 pub returns-in-Dull : goal.returns-in-Dull
 returns-in-Dull c =

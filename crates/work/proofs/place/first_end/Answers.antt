@@ -1,9 +1,6 @@
--- `first_end` meets its contract: its test is the definition's. Assumes nothing.
-use borrow.Author.Tests.{eq-eqb, ne_eqb}
+-- `first_end` meets its contract: a limit is used up before any pass where it is 0. Assumes nothing.
+use Rattle.work.proofs.LawsPlace.{first_end_is}
 use Rattle.work.proofs.place.first_end.Goals as goal
 
-pub returns-then-limit-eq0 : goal.returns-then-limit-eq0
-returns-then-limit-eq0 c = rw (eq-eqb c.args.limit 0 c.if-limit-eq0.true)
-
-pub returns-else-limit-eq0 : goal.returns-else-limit-eq0
-returns-else-limit-eq0 c = rw (ne_eqb c.args.limit 0 c.if-limit-eq0.false)
+pub returns : goal.returns
+returns c = first_end_is c.args.limit c.limit_end.ensures

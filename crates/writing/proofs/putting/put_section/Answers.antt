@@ -8,7 +8,7 @@ use Rattle.format.specs.Place.{placed}
 use Rattle.format.specs.PlaceLaws.{length-placed}
 use Rattle.format.specs.LeLaws.{to_four}
 use Rattle.writing.specs.Write.{laid_all}
-use Rattle.writing.proofs.Puts.{down_none, down_more, down_room, section_down}
+use Rattle.writing.proofs.Puts.{down_none, down_more, down_room, section_down, section_goes}
 use Rattle.writing.proofs.putting.put_section.Goals as goal
 
 pub loop-item-init : goal.loop-item-init
@@ -32,4 +32,7 @@ pub returns : goal.returns
 returns g c =
     let a = c.args in
     let l = c.loop-item in
-    section_down g.T.Item.laid a.out.now c.put.new.out l.out a.at a.count l.next a.items.now l.item-index (c.put.ensures ∙ ap (placed a.out.now a.at) (c.to_le_bytes.ensures ∙ to_four a.count)) l.invariant c.loop-item-test.false
+    record {
+      down = section_down g.T.Item.laid a.out.now c.put.new.out l.out a.at a.count l.next a.items.now l.item-index (c.put.ensures ∙ ap (placed a.out.now a.at) (c.to_le_bytes.ensures ∙ to_four a.count)) l.invariant c.loop-item-test.false;
+      next = section_goes g.T.Item.laid c.put.new.out l.out (a.at + 4) l.next a.items.now l.item-index l.invariant c.loop-item-test.false;
+    }

@@ -20,7 +20,7 @@ returns-in_err-triangles_refusal c =
     rw (p.1, p.2) (fault_second _ c.in_ok-vertices_refusal.ensures (fault_first _ _ c.in_err-triangles_refusal.ensures))
 
 pub neighbours_refusal-requires : goal.neighbours_refusal-requires
-neighbours_refusal-requires c = triangles_few _ c.args.triangles.now (sym c.in_ok-triangles_refusal.ensures)
+neighbours_refusal-requires c = triangles_few _ c.args.content.now.triangles.now (sym c.in_ok-triangles_refusal.ensures)
 
 pub returns-in_err-neighbours_refusal : goal.returns-in_err-neighbours_refusal
 unfolding mesh_refusal

@@ -10,4 +10,4 @@ returns c =
     let k = c.args.self.now.count in
     let cols = c.args.self.now.cols.now in
     c.unwrap_or.ensures ∙ ap (λ (o : Option ℕ). unwrap_or o k) c.first_from.ensures
-    ∙ ap (λ (n : ℕ). unwrap_or (position (λ x. nat_le c.args.j x) (take k cols)) n) (sym (length-take-le k cols c.requires)) ∙ position_is _ _
+    ∙ ap (λ (n : ℕ). unwrap_or (position (λ x. nat_le c.args.j x) (take k cols)) n) (sym (length-take-le k cols c.args.self.now.within.1)) ∙ position_is _ _

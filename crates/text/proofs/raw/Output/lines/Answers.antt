@@ -1,18 +1,9 @@
 -- The lines of what the iterator still has are left. Assumes nothing.
 use native.Mathlib.Omega.{arith}
-use mathlib.Core.Path.{ap, ◌∙◌}
-use Rattle.text.specs.PutLaws.{left-all, left_as, left-more, left_none, left-room}
-use Rattle.text.specs.Text.{lines}
+use mathlib.Core.Path.{◌∙◌}
+use Rattle.text.specs.PutLaws.{left_as, left-more, left_none, left-room}
 use Rattle.text.specs.TextLaws.{lines_next, lines_none}
 use Rattle.text.proofs.raw.Output.lines.Goals as goal
-
-pub loop-part-init : goal.loop-part-init
-loop-part-init c =
-    let made = c.chunks_exact-part-items in
-    let same = c.into_iter-part-iterator.ensures.into_iter_gives in (
-      cc (same, made.ensures.size),
-      left-all _ _ (ap (lines c.args.letter c.args.width) (cc (same, made.ensures.rest))),
-    )
 
 pub line-requires : goal.line-requires
 line-requires c =

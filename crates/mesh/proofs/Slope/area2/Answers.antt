@@ -1,0 +1,6 @@
+-- `Slope::area2` meets its contract: the code has the operations of the definition, in its order. Assumes nothing.
+use Rattle.std.proofs.Common.{refl}
+use Rattle.mesh.proofs.Slope.area2.Goals as goal
+
+pub returns : goal.returns
+returns c = refl
