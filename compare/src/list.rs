@@ -44,7 +44,7 @@ fn adds_to<const N: usize, const M: usize>(subject: &Subject<N, M>, input: &[f64
     adds
 }
 
-/// Prints the list as the tables of a Rattle program, in the layout of rt fmt: an array for each function, row after row.
+/// Prints the list as the tables of a Rattle program, in the layout of rt fmt: an array of rows for each function.
 pub fn print(subjects: &[Box<dyn Listed>], seed: u64) {
     println!("// Inputs and answers as bit patterns, with one pattern for every NaN. `compare/run --list` printed this file: the answers are those of");
     println!("// the original Rust and of Rust's f64, with the seed {seed}. A row has the inputs in the order of the parameters, and then the answer.");
@@ -52,9 +52,15 @@ pub fn print(subjects: &[Box<dyn Listed>], seed: u64) {
         let rows = subject.rows(seed);
         println!();
         println!("// {} rows of {}", rows.len(), rows[0].len());
-        println!("pub const {}: [u64; {}] = [", subject.name().to_uppercase(), rows.len() * rows[0].len());
-        for pattern in rows.concat() {
-            println!("    0x{pattern:016x},");
+        println!("pub const {}: [[u64; {}]; {}] = [", subject.name().to_uppercase(), rows[0].len(), rows.len());
+        for row in rows {
+            let patterns: Vec<String> = row.iter().map(|pattern| format!("0x{pattern:016x}")).collect();
+            // more than four are over the width of a line
+            if patterns.len() <= 4 {
+                println!("    [{}],", patterns.join(", "));
+            } else {
+                println!("    [\n        {},\n    ],", patterns.join(",\n        "));
+            }
         }
         println!("];");
     }

@@ -253,5 +253,9 @@ pub fn print() {
     table("SHEETS", "u32", &all.iter().flat_map(row).collect::<Vec<u32>>());
     let writes = writes();
     println!("\n// {} contents: the answer, 0 where it is written; two numbers that it is spoiled by, 0 for none; the space", writes.len());
-    table("WRITES", "u32", &writes.concat());
+    println!("pub const WRITES: [[u32; 4]; {}] = [", writes.len());
+    for row in &writes {
+        println!("    {row:?},");
+    }
+    println!("];");
 }

@@ -10,16 +10,13 @@ ghost use Rattle.image.specs.Calls.{buffers, answer_of, Does};
 ghost use Rattle.image.specs.Exits.{over_fault};
 
 use refusal::Refusal;
-use work::{Laid, Run};
+use work::{Counted, Laid, Run};
 
-// 2^64 − 1, the most passes that are counted.
-const MOST: u64 = 18446744073709551615;
-
-// Whether a gain would carry passes beyond the most.
+// Whether a gain would carry passes beyond the most that are counted, 2^64 − 1.
 fn over(passes: u64, gain: usize) -> bool
     ensures { result ≡ ltb Machine.most (passes + gain) }
 {
-    MOST - (gain as u64) < passes
+    passes.checked_add(gain as u64).is_none()
 }
 
 // An advance to the target may carry passes too far. Only near that bound are the passes counted, with nothing written.
@@ -32,7 +29,7 @@ fn passes_fault(run: Run, target: usize, floats: &[f64], words: &[u32]) -> Resul
         return Ok(());
     }
     let laid = Laid {
-        plan: run.plan,
+        counted: Counted { plan: run.plan },
         words,
     };
     let more = dry::dry_gain(floats, &laid, run.stand, k);
@@ -55,7 +52,7 @@ pub fn advance(
     gate::held_fault(run, floats, words, path)?;
     let plan = run.plan;
     let place = run.stand.place;
-    let target = (place + k as usize).min(gate::farthest(plan.t, plan.limit));
+    let target = (place + k as usize).min(plan.farthest());
     passes_fault(run, target, floats, words)?;
     let stand = gate::seek(run, target, floats, words, path);
     let gain = stand.place - place;

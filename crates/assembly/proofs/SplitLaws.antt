@@ -2,16 +2,15 @@
 use Prim.Native.Nat.{ℕ, ◌+◌, ◌-◌, ◌*◌, ◌≤◌}
 use native.Mathlib.Nat.{add-zero}
 use native.Mathlib.Omega.{arith}
-use mathlib.Core.Path.{◌≡◌, refl, sym, ap, ◌∙◌}
+use mathlib.Core.Path.{◌≡◌, sym, ap, ◌∙◌}
 use mathlib.Core.List.{List, ◌++◌, append_assoc}
 use lib.Ieee.{Float}
 use lib.ListN.{length, take, drop, replicate, length-append, length-replicate}
 use lib.Seq.{length-take-le}
-use borrow.Rule.Slice.PartMut.{post_of}
 use Rattle.binary64.specs.Constants.{plus_zero}
 use Rattle.stretch.specs.Stretch.{part, splice}
 use Rattle.stretch.specs.StretchLaws.{length_part, part_of_take, splice_rest, splice_front, splice_all, length-splice}
-use Rattle.rows.proofs.PutLaws.{put_is}
+use Rattle.rows.proofs.PutLaws.{front_is}
 use Rattle.laplace.specs.declared.Places.{Places}
 use Rattle.laplace.specs.declared.element.Elements.{Elements}
 use Rattle.laplace.specs.Mesh.{held_value}
@@ -31,10 +30,6 @@ module _ {A : Type 0} where
   part_is l front size at k e h =
       let m : at + k - at ≡ k = omega arith in
       rw (m, e) (part_of_take l size at k h)
-
-  -- a front that is written
-  front_is : (l new : List A) (k : ℕ) → length new ≡ k → k ≤ length l → new ++ post_of 0 (k - 0) l ≡ splice l 0 new
-  front_is l new k e h = put_is l new new 0 k k refl e (omega arith) h
 
   -- a write to the next part
   next : (p l t new : List A) (at : ℕ) → at ≡ length p → length new ≤ length l → splice (p ++ (l ++ t)) at new ≡ (p ++ splice l 0 new) ++ t
@@ -88,9 +83,6 @@ module _ {A : Type 0} where
       ∙ append_assoc p₂ (splice f₃ 0 x₃) y₄
       ∙ append_assoc p₁ (splice f₂ 0 x₂) y₃
       ∙ append_assoc f₀ (splice f₁ 0 x₁) (splice f₂ 0 x₂ ++ y₃))
-
-  pub taken : (l : List A) (k : ℕ) → k ≤ length l → length (take (k - 0) l) ≡ k
-  taken l k h = length-take-le (k - 0) l (omega arith) ∙ omega arith
 
 -- ---- the two buffers
 
@@ -147,8 +139,8 @@ module _ (f : List Float) (w : List ℕ) (n t : ℕ) (at : Places) (lf : LaidFlo
   tags_long = length_part w at.tags n (omega (arith, lw))
 
   pub lengths_are : (e : Elements) → e.vertices.now ≡ vertices_in f n at → e.triangles.now ≡ corners_in w t at → e.tags.now ≡ tags_in w n at
-      → Lengths e (length (take (n - 0) f₁)) (length (take (n - 0) f₂)) (length (take (9 * t + n - 0) f₃))
-      (length (take (n + 1 - 0) w₁)) (length (take (9 * t + n - 0) w₂)) (length (take (n - 0) w₃)) (length (take (3 * t - 0) w₄)) (length (take (n - 0) w₅))
+      → Lengths e (length (take n f₁)) (length (take n f₂)) (length (take (9 * t + n) f₃))
+      (length (take (n + 1) w₁)) (length (take (9 * t + n) w₂)) (length (take n w₃)) (length (take (3 * t) w₄)) (length (take n w₅))
   lengths_are e ev et eg =
       let v : length e.vertices.now ≡ 2 * n = ap length ev ∙ vertices_long in
       let c : length e.triangles.now ≡ 3 * t = ap length et ∙ corners_long in
@@ -161,14 +153,14 @@ module _ (f : List Float) (w : List ℕ) (n t : ℕ) (at : Places) (lf : LaidFlo
           whole = omega arith;
           corners = rw (g, et) lw.corners;
         };
-        right_long = taken f₁ n (omega (arith, pf, lf)) ∙ sym g;
-        row_long = taken f₂ n (omega (arith, pf, lf)) ∙ sym g;
-        values_long = taken f₃ (9 * t + n) (omega (arith, pf, lf)) ∙ omega arith;
-        starts_long = taken w₁ (n + 1) (omega (arith, pw, lw)) ∙ omega arith;
-        cols_long = taken w₂ (9 * t + n) (omega (arith, pw, lw)) ∙ omega arith;
-        heads_long = taken w₃ n (omega (arith, pw, lw)) ∙ sym g;
-        links_long = taken w₄ (3 * t) (omega (arith, pw, lw)) ∙ sym c;
-        rowcols_long = taken w₅ n (omega (arith, pw, lw)) ∙ sym g;
+        right_long = length-take-le n f₁ (omega (arith, pf, lf)) ∙ sym g;
+        row_long = length-take-le n f₂ (omega (arith, pf, lf)) ∙ sym g;
+        values_long = length-take-le (9 * t + n) f₃ (omega (arith, pf, lf)) ∙ omega arith;
+        starts_long = length-take-le (n + 1) w₁ (omega (arith, pw, lw)) ∙ omega arith;
+        cols_long = length-take-le (9 * t + n) w₂ (omega (arith, pw, lw)) ∙ omega arith;
+        heads_long = length-take-le n w₃ (omega (arith, pw, lw)) ∙ sym g;
+        links_long = length-take-le (3 * t) w₄ (omega (arith, pw, lw)) ∙ sym c;
+        rowcols_long = length-take-le n w₅ (omega (arith, pw, lw)) ∙ sym g;
       }
 
   module _ (flat : Float) where
@@ -177,21 +169,21 @@ module _ (f : List Float) (w : List ℕ) (n t : ℕ) (at : Places) (lf : LaidFlo
 
     pub assembled : (vs : List Float) (ts gs : List ℕ) → vs ≡ vertices_in f n at → ts ≡ corners_in w t at → gs ≡ tags_in w n at
         → (right row values : List Float) (starts cols heads links rowcols : List ℕ) (k : ℕ) → length right ≡ n
-        → Filled flat vs ts gs (take (n + 1 - 0) w₁) right row values starts cols heads links rowcols k
+        → Filled flat vs ts gs (take (n + 1) w₁) right row values starts cols heads links rowcols k
         → Assembled f w
-        (f₀ ++ ((right ++ post_of 0 (n - 0) f₁) ++ ((row ++ post_of 0 (n - 0) f₂) ++ (values ++ post_of 0 (9 * t + n - 0) f₃))))
-        (w₀ ++ ((starts ++ post_of 0 (n + 1 - 0) w₁) ++ ((cols ++ post_of 0 (9 * t + n - 0) w₂) ++ ((heads ++ post_of 0 (n - 0) w₃) ++ ((links ++ post_of 0 (3 * t - 0) w₄) ++ (rowcols ++ post_of 0 (n - 0) w₅))))))
+        (f₀ ++ ((right ++ drop n f₁) ++ ((row ++ drop n f₂) ++ (values ++ drop (9 * t + n) f₃))))
+        (w₀ ++ ((starts ++ drop (n + 1) w₁) ++ ((cols ++ drop (9 * t + n) w₂) ++ ((heads ++ drop n w₃) ++ ((links ++ drop (3 * t) w₄) ++ (rowcols ++ drop n w₅))))))
         n t at k (rows_for flat f w n t at n) (right_side held_value (tags_in w n at) (pushes_in flat f w n t at) n)
     assembled vs ts gs ev et eg right row values starts cols heads links rowcols k lr h =
-        let q : Filled flat (vertices_in f n at) (corners_in w t at) (tags_in w n at) (take (n + 1 - 0) w₁) right row values starts cols heads links rowcols k = rw (ev, et, eg) at h in
+        let q : Filled flat (vertices_in f n at) (corners_in w t at) (tags_in w n at) (take (n + 1) w₁) right row values starts cols heads links rowcols k = rw (ev, et, eg) at h in
         let m : 3 * length (corners_in w t at) + length (tags_in w n at) ≡ most n t = omega (arith, corners_long, tags_long) in
         let all = rows_for flat f w n t at n in
         let side : right ≡ right_side held_value (tags_in w n at) (pushes_in flat f w n t at) n = rw tags_long at q.side in
         let er : row ≡ replicate n plus_zero = rw tags_long at q.row_clear in
         let ew : values ≡ padded (most n t) plus_zero (values_of all) = rw (m, tags_long) at q.entries in
-        let es₀ : starts ≡ splice (take (n + 1 - 0) w₁) 0 (starts_of all) = rw tags_long at q.first in
+        let es₀ : starts ≡ splice (take (n + 1) w₁) 0 (starts_of all) = rw tags_long at q.first in
         let ls : length (starts_of all) ≡ n + 1 = omega (arith, length_starts 0 all, length-rows (tags_in w n at) (pushes_in flat f w n t at) n) in
-        let es : starts ≡ starts_of all = es₀ ∙ splice_all (take (n + 1 - 0) w₁) (starts_of all) (ls ∙ sym (taken w₁ (n + 1) (omega (arith, pw, lw)))) in
+        let es : starts ≡ starts_of all = es₀ ∙ splice_all (take (n + 1) w₁) (starts_of all) (ls ∙ sym (length-take-le (n + 1) w₁ (omega (arith, pw, lw)))) in
         let ec : cols ≡ padded (most n t) 0 (columns_of all) = rw (m, tags_long) at q.columns in
         let eh : heads ≡ replicate n 0 = rw tags_long at q.heads_clear in
         let el : links ≡ replicate (3 * t) 0 = rw corners_long at q.links_clear in

@@ -12,6 +12,7 @@ use Rattle.laplace.specs.Placed.{values_of, columns_of, starts_of, padded}
 use Rattle.laplace.specs.Rows.{room_of}
 use Rattle.rows.specs.declared.row.Row.{Row}
 use Rattle.rows.specs.declared.matrix.Builder.{Builder}
+use Rattle.rows.specs.Buffers.{SameRow, SameBuilder}
 
 -- each part has its place for each vertex, each corner or each entry, and the matrix and the row are empty
 pub record Fits (e : Elements) (m : Builder) (right : List Float) (r : Row) (heads links : List ℕ) : Type 0 where
@@ -29,10 +30,17 @@ pub record Fits (e : Elements) (m : Builder) (right : List Float) (r : Row) (hea
 
 -- the rows rs in a matrix with room for `room` entries, and zeros behind them
 pub record PutsMatrix (old new : Builder) (room : ℕ) (rs : List (List Entry)) : Type 0 where
+  pub same : SameBuilder old new
   pub total : new.count ≡ count rs
   pub starts : new.starts.now ≡ splice old.starts.now 0 (starts_of rs)
   pub columns : new.cols.now ≡ padded room 0 (columns_of rs)
   pub values : new.values.now ≡ padded room plus_zero (values_of rs)
+
+-- a row of n zeros
+pub record Clears (old new : Row) (n : ℕ) : Type 0 where
+  pub same : SameRow old new
+  pub values : new.values.now ≡ replicate n plus_zero
+  pub cols : new.cols.now ≡ replicate n 0
 
 -- how long each part is
 pub record Lengths (e : Elements) (right row values starts cols heads links rowcols : ℕ) : Type 0 where

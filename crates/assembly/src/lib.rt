@@ -2,7 +2,6 @@
 #![tactic(auto)]
 
 ghost use Rattle.std.specs.Prelude.{◌≡◌, length, replicate};
-ghost use Rattle.binary64.specs.Constants.{plus_zero};
 ghost use Rattle.laplace.specs.Mesh.{held_value};
 ghost use Rattle.laplace.specs.Assembly as Assembly;
 ghost use Rattle.laplace.specs.Elements.{pushes_of};
@@ -10,8 +9,7 @@ ghost use Rattle.laplace.specs.Laid.{LaidFloats, LaidWords};
 ghost use Rattle.laplace.specs.Row.{tags_in};
 ghost use Rattle.laplace.specs.Rows as Rows;
 ghost use Rattle.laplace.specs.Whole as Whole;
-ghost use Rattle.rows.specs.Buffers.{SameRow, SameBuilder};
-ghost use Rattle.assembly.specs.Fields.{Fits, PutsMatrix, Lengths, Filled};
+ghost use Rattle.assembly.specs.Fields.{Fits, PutsMatrix, Clears, Lengths, Filled};
 
 use laplace::Places;
 use laplace::corners::link;
@@ -21,6 +19,7 @@ use rows::matrix::Builder;
 use rows::row::{Corners, Row};
 
 // The matrix of a mesh, into an empty one, and its right side; a row to build in, and heads and links, are lent.
+// What is lent and what is written are parameters: `fill_slices`, which alone calls it, has the slices as parameters itself, and heads and links become a `Corners` only once they are written.
 fn fill(
     matrix: &mut Builder,
     right: &mut [f64],
@@ -30,10 +29,9 @@ fn fill(
     mesh: &Elements,
 )
     requires { Fits mesh.now matrix.old right.old row.old heads.old links.old }
-    ensures same { SameBuilder matrix.old matrix.new × SameRow row.old row.new }
     ensures put { PutsMatrix matrix.old matrix.new (Rows.room_of mesh.now) (Rows.rows_of mesh.now (length mesh.now.tags.now)) }
     ensures side { right.new ≡ Assembly.right_side held_value mesh.now.tags.now (pushes_of mesh.now) (length mesh.now.tags.now) }
-    ensures row { (row.new.values.now ≡ replicate (length mesh.now.tags.now) plus_zero) × (row.new.cols.now ≡ replicate (length mesh.now.tags.now) 0) }
+    ensures row { Clears row.old row.new (length mesh.now.tags.now) }
     ensures corners { (heads.new ≡ replicate (length mesh.now.tags.now) 0) × (links.new ≡ replicate (length mesh.now.triangles.now) 0) }
 {
     row.values.fill(0.0);
@@ -83,6 +81,7 @@ fn fill_slices(
 }
 
 // The matrix and the right side of the mesh that stands in the buffers; a triangle is skipped where twice its area is below `flat` in magnitude. Answers how many entries the matrix has.
+// `n` and `t` stand beside `at` and not in it, since the definition of a list takes the count that it needs alone (`tags_in`, `corners_in`).
 pub fn assemble(
     floats: &mut [f64],
     words: &mut [u32],
@@ -113,13 +112,13 @@ pub fn assemble(
     };
     fill_slices(
         &mesh,
-        &mut right[0..n],
-        &mut row[0..n],
-        &mut values[0..room],
-        &mut starts[0..n + 1],
-        &mut cols[0..room],
-        &mut heads[0..n],
-        &mut links[0..3 * t],
-        &mut rowcols[0..n],
+        &mut right[..n],
+        &mut row[..n],
+        &mut values[..room],
+        &mut starts[..n + 1],
+        &mut cols[..room],
+        &mut heads[..n],
+        &mut links[..3 * t],
+        &mut rowcols[..n],
     )
 }

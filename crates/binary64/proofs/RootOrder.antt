@@ -2,7 +2,7 @@
 -- So the root of what lies beside the rounded square of a double lies beside the double, and the root of what is above 2^−68 is at least 2^−34 and below infinity. Assumes nothing.
 use Rattle.std.proofs.Common.{◌≡◌, ℕ, zero, suc, ◌+◌, ◌-◌, ◌*◌, ◌/◌, ◌%◌, ◌^◌, ◌<◌, ◌≤◌, Bool, true, false, ◌&&◌, ◌||◌, T, sym, refl, ap, ◌∙◌, subst, true≢false, zero-le, le_trans, le_of_eq, lt_of_lt_of_le, lt_of_le_of_lt, le_of_lt, add-le-add, mul-le-mul_right, mul-le-mul, lt_of_mul-lt-mul_right, mul-le-mul_left, mul-lt-mul_of_pos_right, mul-pos, mul-one, not-le_of_lt, arith, lit≤, pow_pos, pow_mono, shl_lt, ltb-true, lt-ltb, ne_eqb}
 use mathlib.Core.Bool.{false≢true}
-use lib.Ieee.{Float, nan, inf, fin, binary64, up, down, odd, fits, of_fields, of_bits, to_bits, lt, le, eq, div, mul, round}
+use lib.Ieee.{Float, nan, inf, fin, binary64, up, down, odd, fits, of_fields, of_bits, to_bits, lt, le, eq, mul, round}
 use lib.Ieee.Bits.{of_bits-to_bits}
 use lib.Ieee.Exact.{HasValue, odd_sign, round_exact}
 use lib.Ieee.Fits.{down_pos}
@@ -262,8 +262,8 @@ bits_under r l = go (of_bits binary64 r) (bits-value r l)
     go (inf s) v = absurd v
     go (fin s m e) v = refl
 
-pub infinity : div binary64 (of_bits binary64 0x3ff0_0000_0000_0000) (of_bits binary64 0) ≡ inf false
-unfolding div of_bits
+pub infinity : of_bits binary64 0x7ff0_0000_0000_0000 ≡ inf false
+unfolding of_bits
 infinity = refl
 
 -- what is below a positive value is below each that is not less

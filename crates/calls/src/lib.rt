@@ -6,7 +6,7 @@ ghost use Rattle.model.specs.Machine as Machine;
 ghost use Rattle.image.specs.Calls.{buffers, answer_of, Does};
 
 use refusal::Refusal;
-use work::{Kept, Run, Stand};
+use work::{Counted, Kept, Run};
 
 // `as usize`: a u32 is no `Into<usize>`.
 pub fn back(
@@ -29,15 +29,8 @@ pub fn mark(run: Run, floats: &mut [f64], words: &[u32], path: &[f64]) -> Result
     ensures { Does Machine.mark run (buffers floats.old words.now path.now) (answer_of run result) (buffers floats.new words.now path.now) }
 {
     gate::held_fault(run, floats, words, path)?;
-    seek::keep(floats, run.plan);
-    // In this place alone a stand is taken apart into a `Kept`.
-    let Stand {
-        place,
-        rs,
-        norms,
-        ..
-    } = run.stand;
-    let kept = Kept { place, rs, norms };
+    seek::keep(floats, Counted { plan: run.plan });
+    let kept = Kept::from(run.stand);
     let marked = Run {
         mark: Some(kept),
         ..run

@@ -8,12 +8,14 @@ ghost use Rattle.model.specs.Machine as Machine;
 ghost use Rattle.image.specs.Calls.{buffers};
 ghost use Rattle.image.specs.Parts.{field_of, norms_of, gradients_of};
 ghost use Rattle.image.specs.Points.{points_of};
-ghost use Rattle.records.specs.Numbers.{run_from, whole};
+ghost use Rattle.showing.specs.declared.parts.Shown.TheVariants.{Field, Norms, Gradients};
+ghost use Rattle.records.specs.Numbers.{listed, run_from, whole};
 ghost use Rattle.heads.specs.Heads as Heads;
 ghost use Rattle.controls.specs.Controls as Controls;
 
 use image::Call;
 use records::lists::Lists;
+use showing::Shown;
 
 // ---- the sheet
 
@@ -24,7 +26,7 @@ pub extern "C" fn cintrok_raw_check(
     wholes: &mut [u64],
     reals: &mut [f64],
 ) -> u32
-    ensures { Heads.Checks sheet.now head.old wholes.old reals.old result head.new wholes.new reals.new }
+    ensures { Heads.Checks sheet.now head.old (listed wholes.old reals.old) result head.new (listed wholes.new reals.new) }
 {
     refusal::number(heads::check(sheet, head, wholes, reals))
 }
@@ -68,10 +70,16 @@ pub extern "C" fn cintrok_raw_write_sheet(
     out: &mut [u8],
     written: &mut [u64],
 ) -> u32
-    ensures { Heads.WritesFrom vertices.now triangles.now neighbours.now tags.now wholes.now reals.now out.old written.old result out.new written.new }
+    ensures { Heads.WritesFrom vertices.now triangles.now neighbours.now tags.now (listed wholes.now reals.now) out.old written.old result out.new written.new }
 {
     refusal::number(heads::write(
-        vertices, triangles, neighbours, tags, wholes, reals, out, written,
+        vertices,
+        triangles,
+        neighbours,
+        tags,
+        &Lists { wholes, reals },
+        out,
+        written,
     ))
 }
 
@@ -86,7 +94,7 @@ pub extern "C" fn cintrok_raw_open(
     wholes: &mut [u64],
     reals: &mut [f64],
 ) -> u32
-    ensures { Controls.OpenedIn sheet.now wholes.old reals.old (buffers floats.old words.old path.old) result wholes.new reals.new (buffers floats.new words.new path.new) }
+    ensures { Controls.OpenedIn sheet.now (listed wholes.old reals.old) (buffers floats.old words.old path.old) result (listed wholes.new reals.new) (buffers floats.new words.new path.new) }
 {
     refusal::number(controls::open(sheet, floats, words, path, wholes, reals))
 }
@@ -100,7 +108,7 @@ pub extern "C" fn cintrok_raw_advance(
     wholes: &mut [u64],
     reals: &mut [f64],
 ) -> u32
-    ensures { Controls.Called (Machine.advance k) wholes.old reals.old (buffers floats.old words.now path.old) result wholes.new reals.new (buffers floats.new words.now path.new) }
+    ensures { Controls.Called (Machine.advance k) (listed wholes.old reals.old) (buffers floats.old words.now path.old) result (listed wholes.new reals.new) (buffers floats.new words.now path.new) }
 {
     refusal::number(controls::call(Call::Advance(k), floats, words, path, wholes, reals))
 }
@@ -114,7 +122,7 @@ pub extern "C" fn cintrok_raw_back(
     wholes: &mut [u64],
     reals: &mut [f64],
 ) -> u32
-    ensures { Controls.Called (Machine.back k) wholes.old reals.old (buffers floats.old words.now path.old) result wholes.new reals.new (buffers floats.new words.now path.new) }
+    ensures { Controls.Called (Machine.back k) (listed wholes.old reals.old) (buffers floats.old words.now path.old) result (listed wholes.new reals.new) (buffers floats.new words.now path.new) }
 {
     refusal::number(controls::call(Call::Back(k), floats, words, path, wholes, reals))
 }
@@ -127,7 +135,7 @@ pub extern "C" fn cintrok_raw_mark(
     wholes: &mut [u64],
     reals: &mut [f64],
 ) -> u32
-    ensures { Controls.Called Machine.mark wholes.old reals.old (buffers floats.old words.now path.old) result wholes.new reals.new (buffers floats.new words.now path.new) }
+    ensures { Controls.Called Machine.mark (listed wholes.old reals.old) (buffers floats.old words.now path.old) result (listed wholes.new reals.new) (buffers floats.new words.now path.new) }
 {
     refusal::number(controls::call(Call::Mark, floats, words, path, wholes, reals))
 }
@@ -140,7 +148,7 @@ pub extern "C" fn cintrok_raw_return(
     wholes: &mut [u64],
     reals: &mut [f64],
 ) -> u32
-    ensures { Controls.Called Machine.return wholes.old reals.old (buffers floats.old words.now path.old) result wholes.new reals.new (buffers floats.new words.now path.new) }
+    ensures { Controls.Called Machine.return (listed wholes.old reals.old) (buffers floats.old words.now path.old) result (listed wholes.new reals.new) (buffers floats.new words.now path.new) }
 {
     refusal::number(controls::call(Call::Return, floats, words, path, wholes, reals))
 }
@@ -154,7 +162,7 @@ pub extern "C" fn cintrok_raw_length(
     reals: &[f64],
     out: &mut [f64],
 ) -> u32
-    ensures { Controls.Measured wholes.now reals.now (buffers floats.now words.now path.now) out.old result out.new }
+    ensures { Controls.Measured (listed wholes.now reals.now) (buffers floats.now words.now path.now) out.old result out.new }
 {
     refusal::number(controls::length(floats, words, path, &Lists { wholes, reals }, out))
 }
@@ -196,9 +204,9 @@ pub extern "C" fn cintrok_raw_field(
     reals: &[f64],
     out: &mut [u64],
 ) -> u32
-    ensures { Controls.Handed (Controls.field_at (run_from wholes.now reals.now).plan) (field_of (run_from wholes.now reals.now) floats.now) wholes.now reals.now out.old result out.new }
+    ensures { Controls.Handed (Controls.shown_at Field (run_from (listed wholes.now reals.now))) (field_of (run_from (listed wholes.now reals.now)) floats.now) (listed wholes.now reals.now) out.old result out.new }
 {
-    refusal::number(controls::field(floats, &Lists { wholes, reals }, out))
+    refusal::number(controls::show(Shown::Field, floats, &Lists { wholes, reals }, out))
 }
 
 #[unsafe(no_mangle)]
@@ -208,9 +216,9 @@ pub extern "C" fn cintrok_raw_norms(
     reals: &[f64],
     out: &mut [u64],
 ) -> u32
-    ensures { Controls.Handed (Controls.norms_at (run_from wholes.now reals.now).plan) (norms_of (run_from wholes.now reals.now) floats.now) wholes.now reals.now out.old result out.new }
+    ensures { Controls.Handed (Controls.shown_at Norms (run_from (listed wholes.now reals.now))) (norms_of (run_from (listed wholes.now reals.now)) floats.now) (listed wholes.now reals.now) out.old result out.new }
 {
-    refusal::number(controls::norms(floats, &Lists { wholes, reals }, out))
+    refusal::number(controls::show(Shown::Norms, floats, &Lists { wholes, reals }, out))
 }
 
 #[unsafe(no_mangle)]
@@ -220,9 +228,9 @@ pub extern "C" fn cintrok_raw_gradients(
     reals: &[f64],
     out: &mut [u64],
 ) -> u32
-    ensures { Controls.Handed (Controls.gradients_at (run_from wholes.now reals.now).plan) (gradients_of (run_from wholes.now reals.now) floats.now) wholes.now reals.now out.old result out.new }
+    ensures { Controls.Handed (Controls.shown_at Gradients (run_from (listed wholes.now reals.now))) (gradients_of (run_from (listed wholes.now reals.now)) floats.now) (listed wholes.now reals.now) out.old result out.new }
 {
-    refusal::number(controls::gradients(floats, &Lists { wholes, reals }, out))
+    refusal::number(controls::show(Shown::Gradients, floats, &Lists { wholes, reals }, out))
 }
 
 #[unsafe(no_mangle)]
@@ -232,7 +240,7 @@ pub extern "C" fn cintrok_raw_points(
     reals: &[f64],
     out: &mut [u64],
 ) -> u32
-    ensures { Controls.Handed 0 (points_of (run_from wholes.now reals.now) path.now) wholes.now reals.now out.old result out.new }
+    ensures { Controls.Handed 0 (points_of (run_from (listed wholes.now reals.now)) path.now) (listed wholes.now reals.now) out.old result out.new }
 {
     refusal::number(controls::points(path, &Lists { wholes, reals }, out))
 }

@@ -93,6 +93,10 @@ pub record Stepping (x r p q : List Float) (alpha : Float) (i : ℕ) (x' r' : Li
   pub r_is : r' ≡ splice r 0 (zipped (less alpha) r q i)
   pub sum_is : sum ≡ dot (zipped (less alpha) r q i) (zipped (less alpha) r q i)
 
+-- as long as p, with p in the place of the product
+pub along_p : {x r p q : List Float} → AsLong (length p) x r q → AsLong (length p) x r p
+along_p long = record { u_long = long.u_long; v_long = long.v_long; w_long = refl }
+
 pub step_none : (x r p q : List Float) (alpha : Float) → Stepping x r p q alpha 0 x r plus_zero
 unfolding zip_with dot dot_from
 step_none x r p q alpha = record { x_is = sym (splice_nil x 0); r_is = sym (splice_nil r 0); sum_is = refl }

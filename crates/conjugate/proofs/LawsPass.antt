@@ -1,11 +1,11 @@
 -- What the loops of a pass and of place 0 come to together. Assumes nothing.
-use Rattle.std.specs.Prelude.{◌≡◌, refl, ℕ, ◌++◌, length, take, drop, replicate, true, false, Float}
+use Rattle.std.specs.Prelude.{◌≡◌, refl, length, replicate, Bool, true, false, Float}
 use Rattle.std.specs.Float.Ieee.{lt}
-use Rattle.std.proofs.Common.{ap, ◌∙◌, take_at, drop_at}
+use Rattle.std.proofs.Common.{ap, ◌∙◌}
 use mathlib.Core.List.{List, zip_with}
 use Rattle.binary64.specs.Arith.{◌⊘◌}
 use Rattle.binary64.specs.Constants.{plus_zero}
-use Rattle.binary64.specs.Number.{abs_of}
+use Rattle.binary64.specs.Number.{pick, abs_of}
 use Rattle.binary64.specs.Root.{root}
 use Rattle.stretch.specs.Vec.{dot, plus}
 use Rattle.sparse.specs.declared.Matrix.{Matrix}
@@ -16,7 +16,7 @@ use Rattle.conjugate.specs.declared.Pass.{Pass}
 use Rattle.conjugate.specs.declared.Pass.TheVariants.{Halted, Reached, Moved}
 use Rattle.conjugate.specs.Solver.{Solve, halted, reached, moved, pass, begun}
 use Rattle.conjugate.specs.SolverLaws.{next_x, next_r, next_sum, next_of, pass_halted, pass_reached, pass-moved}
-use Rattle.conjugate.specs.Passes.{solve, answer_of, Passes, Begins, Stepped, Resides}
+use Rattle.conjugate.specs.Passes.{solve, answer_of, Passes, Begins, Stepped, Resides, Settled}
 
 -- ---- a pass: x, r and p at entry, x' and r' moved, p' moved
 
@@ -37,25 +37,29 @@ module _ (a : List (List Entry)) (x r p : List Float) (tiny tolerance rs pap : F
     next_is : next ≡ next_sum a (solve x r p rs)
     next_is = rw (pap-is, q-is) at st.sum_is
 
-    module _ (norm : Float) (norm-is : norm ≡ root next) (h : lt (abs_of pap) tiny ≡ false) where
-      norm_next : norm ≡ root (next_sum a (solve x r p rs))
-      norm_next = norm-is ∙ ap root next_is
-
-      pub reaches : lt norm tolerance ≡ true → Passes a tiny tolerance (solve x r p rs) x' r' p (Reached norm)
+    module _ (goes_on : lt (abs_of pap) tiny ≡ false) where
+      reaches : lt (root next) tolerance ≡ true → Passes a tiny tolerance (solve x r p rs) x' r' p (Reached (root next))
       unfolding answer_of
       reaches k =
           let s : Solve = solve x r p rs in
-          let e = norm_next in
-          let t : pass tiny a tolerance s ≡ reached (next_x a s) (next_r a s) (root (next_sum a s)) = pass_reached tiny a tolerance s (rw pap-is at h) (rw e at k) in
+          let e = ap root next_is in
+          let t : pass tiny a tolerance s ≡ reached (next_x a s) (next_r a s) (root (next_sum a s)) = pass_reached tiny a tolerance s (rw pap-is at goes_on) (rw next_is at k) in
           rw t (record { said = ap Reached e; x_is = x-is; r_is = r-is; p_is = refl })
 
-      pub moves : (p' : List Float) → p' ≡ zip_with (plus (next ⊘ rs)) r' p → lt norm tolerance ≡ false → Passes a tiny tolerance (solve x r p rs) x' r' p' (Moved next norm)
+      moves : lt (root next) tolerance ≡ false → Passes a tiny tolerance (solve x r p rs) x' r' (zip_with (plus (next ⊘ rs)) r' p) (Moved next (root next))
       unfolding answer_of
-      moves p' ep k =
+      moves k =
           let s : Solve = solve x r p rs in
-          let e = norm_next in
-          let t : pass tiny a tolerance s ≡ moved (next_of a s) (root (next_sum a s)) = pass-moved tiny a tolerance s (rw pap-is at h) (rw e at k) in
-          rw t (record { said = cc (next_is, e); x_is = x-is; r_is = r-is; p_is = ep ∙ rw (r-is, next_is) })
+          let e = ap root next_is in
+          let t : pass tiny a tolerance s ≡ moved (next_of a s) (root (next_sum a s)) = pass-moved tiny a tolerance s (rw pap-is at goes_on) (rw next_is at k) in
+          rw t (record { said = cc (next_is, e); x_is = x-is; r_is = r-is; p_is = rw (r-is, next_is) })
+
+      by_norm : (t : Bool) → lt (root next) tolerance ≡ t → Passes a tiny tolerance (solve x r p rs) x' r' (pick t p (zip_with (plus (next ⊘ rs)) r' p)) (pick t (Reached (root next)) (Moved next (root next)))
+      by_norm true k = reaches k
+      by_norm false k = moves k
+
+      pub settles : {p' : List Float} {answer : Pass} → Settled r' p next (next ⊘ rs) tolerance p' answer → Passes a tiny tolerance (solve x r p rs) x' r' p' answer
+      settles d = rw (d.said, d.p_is) (by_norm (lt (root next) tolerance) refl)
 
 -- ---- place 0
 
@@ -72,17 +76,3 @@ length-product_of m x = length-product m.starts.now m.cols.now m.values.now (row
 
 pub length-matrix_of : (m : Matrix) → length (matrix_of m) ≡ rows m
 length-matrix_of m = length-first_rows m.starts.now m.cols.now m.values.now (rows m)
-
--- ---- vectors that are the halves of a slice: of xr and pq before; x, r, p and q after
-
-module _ (n : ℕ) (x r p q : List Float) (x-long : length x ≡ n) (p-long : length p ≡ n) where
-  pub begun_on_halves : (t : Solve) {sum : Float} → Begins t x r p sum → Begins t (take n (x ++ r)) (drop n (x ++ r)) (take n (p ++ q)) sum
-  begun_on_halves t d = rw (take_at x r n x-long, drop_at x r n x-long, take_at p q n p-long) d
-
-  pub passed_on_halves : (xr pq : List Float) (mat : List (List Entry)) (tiny tolerance rs : Float) {x₀ r₀ p₀ : List Float} {answer : Pass} → x₀ ≡ take n xr → r₀ ≡ drop n xr → p₀ ≡ take n pq
-      → Passes mat tiny tolerance (solve x₀ r₀ p₀ rs) x r p answer → Passes mat tiny tolerance (solve (take n xr) (drop n xr) (take n pq) rs) (take n (x ++ r)) (drop n (x ++ r)) (take n (p ++ q)) answer
-  passed_on_halves xr pq mat tiny tolerance rs ex er ep d = rw (← ex, ← er, ← ep, take_at x r n x-long, drop_at x r n x-long, take_at p q n p-long) d
-
-pub passed_beside_on_halves : (n : ℕ) (x r p : List Float) → length r ≡ n → (rp : List Float) (mat : List (List Entry)) (tiny tolerance rs : Float) {x₀ r₀ p₀ : List Float} {answer : Pass} → r₀ ≡ take n rp → p₀ ≡ drop n rp
-    → Passes mat tiny tolerance (solve x₀ r₀ p₀ rs) x r p answer → Passes mat tiny tolerance (solve x₀ (take n rp) (drop n rp) rs) x (take n (r ++ p)) (drop n (r ++ p)) answer
-passed_beside_on_halves n x r p long rp mat tiny tolerance rs er ep d = rw (← er, ← ep, take_at r p n long, drop_at r p n long) d

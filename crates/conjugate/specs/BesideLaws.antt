@@ -1,10 +1,9 @@
 -- What a pass on vectors in a buffer of their own leaves there: the vectors of the definition. Assumes nothing.
-use Rattle.std.specs.Prelude.{◌≡◌, refl, List, [], ◌++◌, ℕ, ◌+◌, ◌-◌, ◌*◌, ◌≤◌, length, take, drop, Float}
-use Rattle.std.proofs.Math.Seq.{take_all, drop-drop}
-use lib.ListN.{drop_of_length-le}
-use Rattle.std.proofs.Common.{sym, ap, subst, ◌∙◌, arith, zero-add, append_assoc, append-nil, length-append, length-drop, length-take-le, take-append-drop}
+use Rattle.std.specs.Prelude.{◌≡◌, refl, List, ◌++◌, ℕ, ◌+◌, ◌*◌, ◌≤◌, length, take, drop, Float}
+use Rattle.std.proofs.Math.Seq.{drop-drop}
+use Rattle.std.proofs.Common.{sym, ap, ◌∙◌, arith, zero-add, append_assoc, length-append}
 use Rattle.stretch.specs.Stretch.{part, splice}
-use Rattle.stretch.specs.StretchLaws.{length_part, length-splice, part_front, splice_front, splice_is, splice_part, part_splice-before, part_splice-after, part_splice-same}
+use Rattle.stretch.specs.StretchLaws.{length_part, length-splice, splice_is, splice_part, part_splice-before, part_splice-after, part_splice-same}
 use Rattle.sparse.specs.Sparse.{Entry}
 use Rattle.sparse.specs.Stored.{CsrAt, matrix}
 use Rattle.conjugate.specs.declared.Pass.{Pass}
@@ -12,7 +11,7 @@ use Rattle.sparse.specs.ProductLaws.{length-rows_of}
 use Rattle.conjugate.specs.Solver.{Solve, Turn, halted, reached, moved, pass}
 use Rattle.conjugate.specs.SolverLaws.{Long, after, after_long}
 use Rattle.conjugate.specs.Passes.{solve, Leaves, Passes}
-use Rattle.conjugate.specs.PlacedLaws.{splice-splice_next}
+use Rattle.conjugate.specs.PlacedLaws.{splice-splice_next, first_split, second_split, third_split}
 use Rattle.conjugate.specs.Beside.{vectors_of, left_by, turn_beside, PassedBeside}
 
 -- the vectors of u, one after the other
@@ -102,83 +101,12 @@ passed_beside_parts mat {n} {v} {x₀} {r₀} {p₀} {x} {r} {p} {l} {answer} ti
     let lp : length p ≡ n = ap length done.p_is ∙ long.p_long in
     record { said = done.said; left = el ∙ joined_put v n x r p h lx lr lp ∙ cc (done.x_is, done.r_is, done.p_is) ∙ sym (left_put n v rs t h long) }
 
--- of a stored matrix
-pub passed_beside_of : (words : List ℕ) (floats : List Float) (m : CsrAt) {v : List Float} {mat : List (List Entry)} {x₀ r₀ p₀ x r p l : List Float} {answer : Pass} (tiny tolerance rs : Float) → 3 * m.rows ≤ length v
-    → mat ≡ matrix words floats m → x₀ ≡ part v 0 m.rows → r₀ ≡ part v m.rows m.rows → p₀ ≡ part v (2 * m.rows) m.rows → Passes mat tiny tolerance (solve x₀ r₀ p₀ rs) x r p answer
-    → l ≡ x ++ (r ++ (p ++ drop (3 * m.rows) v)) → PassedBeside v l m.rows (turn_beside words floats m v tiny tolerance rs) answer
-passed_beside_of words floats m {v} {mat} tiny tolerance rs h em ex₀ er₀ ep₀ d el =
-    rw em at (passed_beside_parts mat tiny tolerance rs h (ap length em ∙ length-rows_of words floats m m.rows) ex₀ er₀ ep₀ d el)
+-- ---- vectors in a row at the front of a slice v, split off one by one: `rest` stands behind them
 
--- ---- vectors in a row in a slice v of 3n, lent as x and the other two: `front` and `back` at entry, front' and back' after
-
-module _ (v : List Float) (n : ℕ) (many : length v ≡ 3 * n) where
-  second_of : {back : List Float} → back ≡ drop n v → take n back ≡ part v n n
-  unfolding part
-  second_of e = ap (take n) e
-
-  third_of : {back : List Float} → back ≡ drop n v → drop n back ≡ part v (2 * n) n
-  unfolding part
-  third_of {back} e =
-      let two : n + n ≡ 2 * n = omega arith in
-      let long : length (drop (2 * n) v) ≡ length v - 2 * n = length-drop (2 * n) v in
-      ap (drop n) e ∙ drop-drop n n v ∙ ap (λ (k : ℕ). drop k v) two ∙ sym (take_all n (drop (2 * n) v) (omega arith))
-
-  joined_of : (front' back' : List Float) → front' ++ back' ≡ front' ++ (take n back' ++ (drop n back' ++ drop (3 * n) v))
-  joined_of front' back' =
-      let none : drop (3 * n) v ≡ [] = drop_of_length-le v {i = 3 * n} (omega arith) in
-      rw (none, append-nil, take-append-drop)
-
-  pub passed_beside_row : (mat : List (List Entry)) {front back : List Float} (front' back' : List Float) {answer : Pass} (tiny tolerance rs : Float) → length mat ≡ n → front ≡ take n v → back ≡ drop n v
-      → Passes mat tiny tolerance (solve front (take n back) (drop n back) rs) front' (take n back') (drop n back') answer → PassedBeside v (front' ++ back') n (pass tiny mat tolerance (vectors_of v n rs)) answer
-  unfolding part
-  passed_beside_row mat front' back' tiny tolerance rs rows ef eb d =
-      passed_beside_parts mat tiny tolerance rs (omega arith) rows ef (second_of eb) (third_of eb) d (joined_of front' back')
-
--- ---- a slice v of 3n that is the front of a longer one
-
-module _ (v rest : List Float) (n : ℕ) (many : length v ≡ 3 * n) where
-  fits : 3 * n ≤ length (v ++ rest)
-  fits = omega (arith, length-append v rest)
-
-  vectors_front : (rs : Float) → vectors_of (v ++ rest) n rs ≡ vectors_of v n rs
-  vectors_front rs =
-      let x : part (v ++ rest) 0 n ≡ part v 0 n = part_front v rest 0 n (omega arith) in
-      let r : part (v ++ rest) n n ≡ part v n n = part_front v rest n n (omega arith) in
-      let p : part (v ++ rest) (2 * n) n ≡ part v (2 * n) n = part_front v rest (2 * n) n (omega arith) in
-      cc
-
-  put_front : (x r p : List Float) → length x ≡ n → length r ≡ n → length p ≡ n
-      → splice (splice (splice (v ++ rest) 0 x) n r) (2 * n) p ≡ splice (splice (splice v 0 x) n r) (2 * n) p ++ rest
-  put_front x r p ex er ep =
-      let v₁ : List Float = splice v 0 x in
-      let v₂ : List Float = splice v₁ n r in
-      let l₁ : length v₁ ≡ length v = length-splice v 0 x in
-      let l₂ : length v₂ ≡ length v₁ = length-splice v₁ n r in
-      ap (λ (w : List Float). splice (splice w n r) (2 * n) p) (splice_front v rest 0 x (omega arith))
-      ∙ ap (λ (w : List Float). splice w (2 * n) p) (splice_front v₁ rest n r (omega arith))
-      ∙ splice_front v₂ rest (2 * n) p (omega arith)
-
-  pub passed_beside_front : (mat : List (List Entry)) {v' : List Float} {answer : Pass} (tiny tolerance rs : Float) → length mat ≡ n → PassedBeside v v' n (pass tiny mat tolerance (vectors_of v n rs)) answer
-      → PassedBeside (v ++ rest) (v' ++ rest) n (pass tiny mat tolerance (vectors_of (v ++ rest) n rs)) answer
-  passed_beside_front mat {v'} {answer} tiny tolerance rs rows d =
-      let s : Solve = vectors_of v n rs in
-      let t : Turn = pass tiny mat tolerance s in
-      let e = vectors_front rs in
-      let from : Long n s = record { x_long = length_part v 0 n (omega arith); r_long = length_part v n n (omega arith); p_long = length_part v (2 * n) n (omega arith) } in
-      let long : Long n (after s t) = after_long n tiny mat tolerance s rows from in
-      let same : after (vectors_of (v ++ rest) n rs) t ≡ after s t = ap (λ (q : Solve). after q t) e in
-      let whole : left_by n (v ++ rest) t ≡ left_by n v t ++ rest =
-      left_put n (v ++ rest) rs t fits (rw same long)
-      ∙ ap (λ (u : Solve). splice (splice (splice (v ++ rest) 0 u.x) n u.r) (2 * n) u.p) same
-      ∙ put_front (after s t).x (after s t).r (after s t).p long.x_long long.r_long long.p_long
-      ∙ ap (λ (w : List Float). w ++ rest) (sym (left_put n v rs t (omega arith) long)) in
-      rw e (record { said = d.said; left = ap (λ (w : List Float). w ++ rest) d.left ∙ sym whole })
-
--- ---- the front of a slice v of at least 3n, lent as a slice of its own
-
-pub passed_beside_taken : (v : List Float) (n : ℕ) → 3 * n ≤ length v → (mat : List (List Entry)) (v' : List Float) {answer : Pass} (tiny tolerance rs : Float) → length mat ≡ n
-    → PassedBeside (take (3 * n) v) v' n (pass tiny mat tolerance (vectors_of (take (3 * n) v) n rs)) answer
-    → PassedBeside v (v' ++ drop (3 * n) v) n (pass tiny mat tolerance (vectors_of v n rs)) answer
-passed_beside_taken v n h mat v' {answer} tiny tolerance rs rows d =
-    subst (λ (w : List Float). PassedBeside w (v' ++ drop (3 * n) v) n (pass tiny mat tolerance (vectors_of w n rs)) answer) (take-append-drop (3 * n) v)
-    (passed_beside_front (take (3 * n) v) (drop (3 * n) v) n (length-take-le (3 * n) v h) mat tiny tolerance rs rows d)
+pub passed_beside_split : (mat : List (List Entry)) {n : ℕ} {v x₀ r₀ p₀ x r p rest : List Float} {answer : Pass} (tiny tolerance rs : Float) → 3 * n ≤ length v → length mat ≡ n
+    → x₀ ≡ take n v → r₀ ≡ take n (drop n v) → p₀ ≡ take n (drop n (drop n v)) → rest ≡ drop n (drop n (drop n v)) → Passes mat tiny tolerance (solve x₀ r₀ p₀ rs) x r p answer
+    → PassedBeside v (x ++ (r ++ (p ++ rest))) n (pass tiny mat tolerance (vectors_of v n rs)) answer
+passed_beside_split mat {n} {v} {x = x} {r = r} {p = p} tiny tolerance rs h many ex er ep el d =
+    let all : n + n + n ≡ 3 * n = omega arith in
+    let behind : drop n (drop n (drop n v)) ≡ drop (3 * n) v = ap (drop n) (drop-drop n n v) ∙ drop-drop n (n + n) v ∙ ap (λ (k : ℕ). drop k v) all in
+    passed_beside_parts mat tiny tolerance rs h many (ex ∙ first_split n v) (er ∙ second_split n v) (ep ∙ third_split n v) d (ap (λ (z : List Float). x ++ (r ++ (p ++ z))) (el ∙ behind))

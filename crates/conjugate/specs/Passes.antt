@@ -2,7 +2,9 @@
 use Rattle.std.specs.Prelude.{◌≡◌, ℕ, length, Float}
 use mathlib.Core.List.{List, zip_with}
 use Rattle.std.specs.Float.{binary64}
-use Rattle.std.specs.Float.Ieee.{sub}
+use Rattle.std.specs.Float.Ieee.{sub, lt}
+use Rattle.binary64.specs.Number.{pick}
+use Rattle.binary64.specs.Root.{root}
 use Rattle.stretch.specs.Vec.{dot, plus, less}
 use Rattle.sparse.specs.Sparse.{Entry}
 use Rattle.conjugate.specs.declared.Pass.{Pass}
@@ -61,3 +63,10 @@ pub record Resides (b q r p : List Float) (sum : Float) : Type 0 where
   pub r_is : r ≡ zip_with (sub binary64) b q
   pub p_is : p ≡ zip_with (sub binary64) b q
   pub sum_is : sum ≡ dot (zip_with (sub binary64) b q) (zip_with (sub binary64) b q)
+
+-- ---- what the end of a pass ensures
+
+-- r·r is rs: its root answers, and p is moved by beta unless that is below the tolerance
+pub record Settled (r p : List Float) (rs beta tolerance : Float) (p' : List Float) (answer : Pass) : Type 0 where
+  pub said : answer ≡ pick (lt (root rs) tolerance) (Reached (root rs)) (Moved rs (root rs))
+  pub p_is : p' ≡ pick (lt (root rs) tolerance) p (zip_with (plus beta) r p)

@@ -1,21 +1,21 @@
 -- What stands in the buffer after place 0 or a pass: the vectors of the definition, +0 at the product, and all else as it was. Assumes nothing.
-use Rattle.std.specs.Prelude.{◌≡◌, refl, ℕ, ◌+◌, ◌-◌, ◌*◌, ◌≤◌, [], ◌++◌, take, drop, replicate}
-use Rattle.std.proofs.Common.{sym, ap, ◌∙◌, ⊎_elim, append_assoc, append-nil, length-append, length-drop, length-take-le, take-append-drop}
+use Rattle.std.specs.Prelude.{◌≡◌, refl, ℕ, ◌+◌, ◌*◌, ◌≤◌, [], ◌++◌, take, drop, replicate}
+use Rattle.std.proofs.Common.{sym, ap, ◌∙◌, ⊎_elim, append_assoc, append-nil, length-append}
 use mathlib.Core.List.{List}
 use lib.ListN.{drop_of_length-le}
-use Rattle.std.proofs.Math.Seq.{take_all}
+use Rattle.std.proofs.Math.Seq.{drop-drop}
 use native.Mathlib.Omega.{arith}
 use Rattle.std.proofs.Math.ListN.{length, length-replicate}
 use Rattle.std.specs.Float.Ieee.{Float}
 use Rattle.binary64.specs.Constants.{plus_zero}
 use Rattle.stretch.specs.Stretch.{part, splice, Wrote}
-use Rattle.stretch.specs.StretchLaws.{length_part, length-splice, part_part, part_of_take, splice_part, splice_is, splice-splice_in, splice-append, part_splice-after, got, kept_before, kept_after}
+use Rattle.stretch.specs.StretchLaws.{length_part, length-splice, part_part, splice_part, splice_is, splice-splice_in, splice-append, part_splice-after, got, kept_before, kept_after}
 use Rattle.sparse.specs.Sparse.{Entry}
 use Rattle.sparse.specs.Stored.{CsrAt, matrix}
 use Rattle.sparse.specs.ProductLaws.{length-rows_of, matrix_kept}
 use Rattle.conjugate.specs.declared.Pass.{Pass}
 use Rattle.conjugate.specs.declared.Pass.TheVariants.{Halted, Reached, Moved}
-use Rattle.conjugate.specs.Solver.{Solve, Turn, halted, reached, moved, pass, begun}
+use Rattle.conjugate.specs.Solver.{Solve, Turn, halted, reached, moved, pass}
 use Rattle.conjugate.specs.Passes.{solve, Leaves, Passes, Begins}
 use Rattle.conjugate.specs.SolverLaws.{Long, after, begun_long, after_long}
 use Rattle.conjugate.specs.Placed.{VectorsAt, row_of, InRow, Outside, Laid, Starts, read, cleared, placed, stored_after, answer_of, turn_of, Passed, start_of, Begun}
@@ -132,6 +132,19 @@ module _ (s : List Float) (at : VectorsAt) (n : ℕ) (row : InRow (length s) at 
       ∙ sym (splice_is s all at.x (n + (n + (n + n))) l₃ (omega arith))
       ∙ sym put
 
+-- parts of n that are split off one by one
+pub first_split : (n : ℕ) (v : List Float) → take n v ≡ part v 0 n
+unfolding part
+first_split n v = refl
+
+pub second_split : (n : ℕ) (v : List Float) → take n (drop n v) ≡ part v n n
+unfolding part
+second_split n v = refl
+
+pub third_split : (n : ℕ) (v : List Float) → take n (drop n (drop n v)) ≡ part v (2 * n) n
+unfolding part
+third_split n v = let two : n + n ≡ 2 * n = omega arith in ap (take n) (drop-drop n n v ∙ ap (λ (k : ℕ). drop k v) two)
+
 -- a pass over the parts of a buffer, with any matrix of n rows
 pub passed_parts : (mat : List (List Entry)) {s : List Float} {n : ℕ} {at : VectorsAt} {x₀ r₀ p₀ x r p q l : List Float} {answer : Pass} (tiny tolerance rs : Float) → InRow (length s) at n → Adjoin at n → length mat ≡ n
     → x₀ ≡ part s at.x n → r₀ ≡ part s at.r n → p₀ ≡ part s at.p n → Passes mat tiny tolerance (solve x₀ r₀ p₀ rs) x r p answer → q ≡ replicate n plus_zero
@@ -149,13 +162,6 @@ passed_parts mat {s} {n} {at} {x₀} {r₀} {p₀} {x} {r} {p} {q} {l} {answer} 
     let left : l ≡ placed n s at u = el ∙ joined_put s at n row next x r p q lx lr lp lq ∙ cc (done.x_is, done.r_is, done.p_is, eq) in
     record { said = done.said; left = left ∙ sym (stored_placed s n at rs t row long) }
 
--- the same of a stored matrix
-pub passed_of : {w : List ℕ} {s : List Float} {m : CsrAt} {at : VectorsAt} {mat : List (List Entry)} {x₀ r₀ p₀ x r p q l : List Float} {answer : Pass} (tiny tolerance rs : Float) → Laid w (length s) m at → Adjoin at m.rows
-    → mat ≡ matrix w s m → x₀ ≡ part s at.x m.rows → r₀ ≡ part s at.r m.rows → p₀ ≡ part s at.p m.rows → Passes mat tiny tolerance (solve x₀ r₀ p₀ rs) x r p answer → q ≡ replicate m.rows plus_zero
-    → l ≡ take at.x s ++ (x ++ (r ++ (p ++ (q ++ drop (at.product + m.rows) s)))) → Passed s l m.rows at (turn_of w s m at tiny tolerance rs) answer
-passed_of {w} {s} {m} {at} {mat} tiny tolerance rs laid next em ex₀ er₀ ep₀ d eq el =
-    rw em at (passed_parts mat tiny tolerance rs laid.in_row next (ap length em ∙ length-rows_of w s m m.rows) ex₀ er₀ ep₀ d eq el)
-
 -- vectors that are begun, in the parts of a buffer
 pub begun_parts : {s : List Float} {n : ℕ} {at : VectorsAt} (u : Solve) {x r p q l : List Float} {sum : Float} → InRow (length s) at n → Adjoin at n → Long n u → Begins u x r p sum → q ≡ replicate n plus_zero
     → l ≡ take at.x s ++ (x ++ (r ++ (p ++ (q ++ drop (at.product + n) s)))) → Begun s l n at u sum
@@ -167,14 +173,7 @@ begun_parts {s} {n} {at} u {x} {r} {p} {q} {l} {sum} row next long d eq el =
     let lq : length q ≡ n = ap length eq ∙ length-replicate n plus_zero in
     record { said = d.said; left = el ∙ joined_put s at n row next x r p q lx lr lp lq ∙ cc (d.x_is, d.r_is, d.p_is, eq) }
 
--- place 0 of a stored matrix: b₀ is the right side
-pub begun_of : {w : List ℕ} {s : List Float} {m : CsrAt} {at : VectorsAt} {b : ℕ} {mat : List (List Entry)} {b₀ x r p q l : List Float} {sum : Float} → Starts w (length s) m at b → Adjoin at m.rows → mat ≡ matrix w s m
-    → b₀ ≡ part s b m.rows → Begins (begun mat b₀) x r p sum → q ≡ replicate m.rows plus_zero
-    → l ≡ take at.x s ++ (x ++ (r ++ (p ++ (q ++ drop (at.product + m.rows) s)))) → Begun s l m.rows at (start_of w s m b) sum
-begun_of {w} {s} {m} {at} {b} st next em eb d eq el =
-    begun_parts (start_of w s m b) st.laid.in_row next (start_long w s m b st.reads.right_fits) (rw (em, eb) at d) eq el
-
--- ---- vectors in a row in a slice v of 4n, lent as two halves: `front` and `back` at entry, front' and back' after
+-- ---- vectors in a row in a slice v of 4n, split off one by one: behind x is `two`, and behind r `three`
 
 module _ (v : List Float) (n : ℕ) (many : length v ≡ 4 * n) where
   row_fits : InRow (length v) (row_of n) n
@@ -183,36 +182,18 @@ module _ (v : List Float) (n : ℕ) (many : length v ≡ 4 * n) where
   row_adjoins : Adjoin (row_of n) n
   row_adjoins = record { r_at = omega arith; p_at = omega arith; product_at = omega arith }
 
-  first_of : {front : List Float} → front ≡ take (2 * n) v → take n front ≡ part v 0 n
-  unfolding part
-  first_of e = ap (take n) e ∙ part_of_take v (2 * n) 0 n (omega arith)
-
-  second_of : {front : List Float} → front ≡ take (2 * n) v → drop n front ≡ part v n n
-  unfolding part
-  second_of {front} e =
-      let l : length front ≡ 2 * n = ap length e ∙ length-take-le (2 * n) v (omega arith) in
-      let k : length (drop n front) ≡ length front - n = length-drop n front in
-      sym (take_all n (drop n front) (omega arith)) ∙ ap (λ (f : List Float). take n (drop n f)) e ∙ part_of_take v (2 * n) n n (omega arith)
-
-  third_of : {back : List Float} → back ≡ drop (2 * n) v → take n back ≡ part v (2 * n) n
-  unfolding part
-  third_of e = ap (take n) e
-
-  joined_of : (front' back' : List Float) → front' ++ back' ≡ take 0 v ++ (take n front' ++ (drop n front' ++ (take n back' ++ (drop n back' ++ drop (3 * n + n) v))))
-  joined_of front' back' =
+  joined_of : (x r p q : List Float) → x ++ (r ++ (p ++ q)) ≡ take 0 v ++ (x ++ (r ++ (p ++ (q ++ drop (3 * n + n) v))))
+  joined_of x r p q =
       let none : drop (3 * n + n) v ≡ [] = drop_of_length-le v {i = 3 * n + n} (omega arith) in
-      let f : take n front' ++ drop n front' ≡ front' = take-append-drop n front' in
-      let b : take n back' ++ drop n back' ≡ back' = take-append-drop n back' in
-      rw (none, append-nil, b) (ap (λ (z : List Float). z ++ back') (sym f) ∙ append_assoc (take n front') (drop n front') back')
+      rw (none, append-nil)
 
-  pub passed_halves : (mat : List (List Entry)) {front back : List Float} (front' back' : List Float) {answer : Pass} (tiny tolerance rs : Float) → length mat ≡ n → front ≡ take (2 * n) v → back ≡ drop (2 * n) v
-      → Passes mat tiny tolerance (solve (take n front) (drop n front) (take n back) rs) (take n front') (drop n front') (take n back') answer → drop n back' ≡ replicate n plus_zero
-      → Passed v (front' ++ back') n (row_of n) (pass tiny mat tolerance (read v (row_of n) n rs)) answer
-  passed_halves mat {front} {back} front' back' tiny tolerance rs rows ef eb d eq =
-      passed_parts mat tiny tolerance rs row_fits row_adjoins rows (first_of ef) (second_of ef) (third_of eb) d eq (joined_of front' back')
+  pub passed_split : (mat : List (List Entry)) {x₀ r₀ p₀ x r p q : List Float} {answer : Pass} (tiny tolerance rs : Float) → length mat ≡ n → x₀ ≡ take n v → r₀ ≡ take n (drop n v) → p₀ ≡ take n (drop n (drop n v))
+      → Passes mat tiny tolerance (solve x₀ r₀ p₀ rs) x r p answer → q ≡ replicate n plus_zero → Passed v (x ++ (r ++ (p ++ q))) n (row_of n) (pass tiny mat tolerance (read v (row_of n) n rs)) answer
+  passed_split mat {x = x} {r = r} {p = p} {q = q} tiny tolerance rs rows ex er ep d eq =
+      passed_parts mat tiny tolerance rs row_fits row_adjoins rows (ex ∙ first_split n v) (er ∙ second_split n v) (ep ∙ third_split n v) d eq (joined_of x r p q)
 
-  pub begun_halves : (u : Solve) (front' back' : List Float) {sum : Float} → Long n u → Begins u (take n front') (drop n front') (take n back') sum → drop n back' ≡ replicate n plus_zero → Begun v (front' ++ back') n (row_of n) u sum
-  begun_halves u front' back' long d eq = begun_parts u row_fits row_adjoins long d eq (joined_of front' back')
+  pub begun_split : (u : Solve) {x r p q : List Float} {sum : Float} → Long n u → Begins u x r p sum → q ≡ replicate n plus_zero → Begun v (x ++ (r ++ (p ++ q))) n (row_of n) u sum
+  begun_split u {x} {r} {p} {q} long d eq = begun_parts u row_fits row_adjoins long d eq (joined_of x r p q)
 
 -- ---- a slice v that is the vectors of a buffer s, from at.x on: v' and l are what they are after
 

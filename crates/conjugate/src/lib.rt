@@ -1,9 +1,9 @@
 // Conjugate gradients: place 0, and one pass.
 // The vectors are slices of their own: `&` and `&mut` say which of them a step reads and which it writes, and a struct of `&mut` would leave that to clauses. Their lengths are one record, `AsLong`.
-// The thresholds are two numbers, as in the definitions: the callers have `tiny` as a constant of the run and `tolerance` of the sheet.
+// The loops go along one slice by `enumerate`, with its number into the others: what is written through a zip with `iter_mut` is known by its length alone (the invariant of such a loop has no name for the slice).
 #![tactic(auto)]
 
-ghost use Rattle.std.specs.Prelude.{◌≡◌, ◌*◌, ◌≤◌, length, take, drop, replicate};
+ghost use Rattle.std.specs.Prelude.{◌≡◌, ◌*◌, ◌≤◌, length, replicate};
 ghost use mathlib.Core.List.{zip_with};
 ghost use Rattle.binary64.specs.Constants.{plus_zero};
 ghost use Rattle.stretch.specs.Vec as Vec;
@@ -15,6 +15,13 @@ ghost use Rattle.conjugate.specs.Placed as Placed;
 ghost use Rattle.conjugate.specs.Beside as Beside;
 
 use sparse::Matrix;
+
+// Below `tiny` p·Ap counts as zero, which halts a pass; below `tolerance` a norm is reached.
+#[derive(Clone, Copy)]
+pub struct Thresholds {
+    pub tiny: f64,
+    pub tolerance: f64,
+}
 
 // What a pass comes to: p·Ap that counts as zero; a norm below the tolerance; or the next sum of squares with its norm.
 #[derive(Clone, Copy)]
@@ -52,33 +59,40 @@ fn direct(r: &[f64], p: &mut [f64], beta: f64)
     }
 }
 
-// One pass with rs = r·r; `tiny` is where p·Ap halts it. Between passes the product is +0 everywhere.
+// The end of a pass that has moved x and r: rs is the new r·r, and beta is what p is moved by, unless the norm is below the tolerance.
+fn settle(r: &[f64], p: &mut [f64], rs: f64, beta: f64, tolerance: f64) -> Pass
+    requires { length p.old ≡ length r.now }
+    ensures { Passes.Settled r.now p.old rs beta tolerance p.new result }
+{
+    let norm = root::sqrt(rs);
+    if norm < tolerance {
+        return Pass::Reached(norm);
+    }
+    direct(r, p, beta);
+    Pass::Moved(rs, norm)
+}
+
+// One pass with rs = r·r. Between passes the product is +0 everywhere.
 pub fn one_pass(
     a: &Matrix,
     x: &mut [f64],
     r: &mut [f64],
     p: &mut [f64],
     product: &mut [f64],
-    tiny: f64,
-    tolerance: f64,
+    thresholds: Thresholds,
     rs: f64,
 ) -> Pass
     requires { Passes.AsLong (rows a.now) x.old r.old p.old × (length product.old ≡ rows a.now) }
-    ensures passed { Passes.Passes (matrix_of a.now) tiny tolerance (Passes.solve x.old r.old p.old rs) x.new r.new p.new result }
+    ensures passed { Passes.Passes (matrix_of a.now) thresholds.tiny thresholds.tolerance (Passes.solve x.old r.old p.old rs) x.new r.new p.new result }
     ensures cleared { product.new ≡ replicate (rows a.now) plus_zero }
 {
     let pap = a.product(p, product);
-    if binary64::abs(pap) < tiny {
+    if binary64::abs(pap) < thresholds.tiny {
         product.fill(0.0);
         return Pass::Halted;
     }
     let next = step(x, r, p, product, rs / pap);
-    let norm = root::sqrt(next);
-    if norm < tolerance {
-        return Pass::Reached(norm);
-    }
-    direct(r, p, next / rs);
-    Pass::Moved(next, norm)
+    settle(r, p, next, next / rs, thresholds.tolerance)
 }
 
 // b less the product, at r and at p; the product is cleared. Answers r·r.
@@ -130,7 +144,8 @@ fn curvature(a: &Matrix, p: &[f64]) -> f64
     pap
 }
 
-// x + alpha p and r − alpha q, where q is the product, worked out again. Answers the new r·r. Apart from `step`, which clears the product in its loop.
+// x + alpha p and r − alpha q, where q is the product, worked out again. Answers the new r·r.
+// One function with `step` would take q as a closure. That of `step` reads element i and clears it: what a call gives depends on the calls before it, so the contract would need an invariant of the slice that the closure holds; and cleared after the loop, the product is gone through a second time in each pass.
 fn step_beside(a: &Matrix, x: &mut [f64], r: &mut [f64], p: &[f64], alpha: f64) -> f64
     requires { Passes.AsLong (rows a.now) x.old r.old p.now }
     ensures { Passes.Stepped x.old r.old p.now (mat_vec (matrix_of a.now) p.now) alpha x.new r.new result }
@@ -146,137 +161,62 @@ fn step_beside(a: &Matrix, x: &mut [f64], r: &mut [f64], p: &[f64], alpha: f64) 
     square
 }
 
-// One pass with rs = r·r, as `one_pass`, and no product. Apart from `one_pass`: one function of both would take p·Ap and the step as closures and state the contracts of both for them.
+// One pass with rs = r·r, as `one_pass`, and no product. What the two have in common is `settle`: one function of both would take p·Ap and the step as closures and state the contracts of both for them.
 pub fn pass_beside(
     a: &Matrix,
     x: &mut [f64],
     r: &mut [f64],
     p: &mut [f64],
-    tiny: f64,
-    tolerance: f64,
+    thresholds: Thresholds,
     rs: f64,
 ) -> Pass
     requires { Passes.AsLong (rows a.now) x.old r.old p.old }
-    ensures { Passes.Passes (matrix_of a.now) tiny tolerance (Passes.solve x.old r.old p.old rs) x.new r.new p.new result }
+    ensures { Passes.Passes (matrix_of a.now) thresholds.tiny thresholds.tolerance (Passes.solve x.old r.old p.old rs) x.new r.new p.new result }
 {
     let pap = curvature(a, p);
-    if binary64::abs(pap) < tiny {
+    if binary64::abs(pap) < thresholds.tiny {
         return Pass::Halted;
     }
     let square = step_beside(a, x, r, p, rs / pap);
-    let norm = root::sqrt(square);
-    if norm < tolerance {
-        return Pass::Reached(norm);
-    }
-    direct(r, p, square / rs);
-    Pass::Moved(square, norm)
+    settle(r, p, square, square / rs, thresholds.tolerance)
 }
 
-// ---- vectors that stand one after the other in a slice: x, r, p and the product; n, the matrix's rows, says where each starts. A slice is split once in a function, and its halves in the next.
-
-// One pass, where x and r, and p and the product, are the halves of slices.
-fn pass_on_halves(
-    a: &Matrix,
-    xr: &mut [f64],
-    pq: &mut [f64],
-    n: usize,
-    tiny: f64,
-    tolerance: f64,
-    rs: f64,
-) -> Pass
-    requires { (n ≡ rows a.now) × (length xr.old ≡ 2 * n) × (length pq.old ≡ 2 * n) }
-    ensures passed { Passes.Passes (matrix_of a.now) tiny tolerance (Passes.solve (take n xr.old) (drop n xr.old) (take n pq.old) rs) (take n xr.new) (drop n xr.new) (take n pq.new) result }
-    ensures cleared { drop n pq.new ≡ replicate n plus_zero }
-{
-    let (x, r) = xr.split_at_mut(n);
-    let (p, product) = pq.split_at_mut(n);
-    one_pass(a, x, r, p, product, tiny, tolerance, rs)
-}
+// ---- vectors that stand one after the other in a slice: x, r, p and the product. Each function splits them off for itself: no clause says what a slice becomes of which a function hands out four parts (`LendsBoth` is for two), and one that takes a closure would state the contract of each for it.
 
 // One pass.
-pub fn pass_in_row(
-    a: &Matrix,
-    vectors: &mut [f64],
-    n: usize,
-    tiny: f64,
-    tolerance: f64,
-    rs: f64,
-) -> Pass
-    requires { (n ≡ rows a.now) × (length vectors.old ≡ 4 * n) }
-    ensures { Placed.Passed vectors.old vectors.new n (Placed.row_of n)
-        (pass tiny (matrix_of a.now) tolerance (Placed.read vectors.old (Placed.row_of n) n rs)) result }
+pub fn pass_in_row(a: &Matrix, vectors: &mut [f64], thresholds: Thresholds, rs: f64) -> Pass
+    requires { length vectors.old ≡ 4 * rows a.now }
+    ensures { Placed.Passed vectors.old vectors.new (rows a.now) (Placed.row_of (rows a.now))
+        (pass thresholds.tiny (matrix_of a.now) thresholds.tolerance (Placed.read vectors.old (Placed.row_of (rows a.now)) (rows a.now) rs)) result }
 {
-    let half = 2 * n;
-    let (xr, pq) = vectors.split_at_mut(half);
-    pass_on_halves(a, xr, pq, n, tiny, tolerance, rs)
-}
-
-// Place 0, where x and r, and p and the product, are the halves of slices.
-fn begin_on_halves(a: &Matrix, b: &[f64], xr: &mut [f64], pq: &mut [f64], n: usize) -> f64
-    requires { (n ≡ rows a.now) × (length b.now ≡ n) × (length xr.old ≡ 2 * n) × (length pq.old ≡ 2 * n) }
-    ensures begun { Passes.Begins (begun (matrix_of a.now) b.now) (take n xr.new) (drop n xr.new) (take n pq.new) result }
-    ensures cleared { drop n pq.new ≡ replicate n plus_zero }
-{
-    let (x, r) = xr.split_at_mut(n);
-    let (p, product) = pq.split_at_mut(n);
-    begin(a, b, x, r, p, product)
+    let n = a.rows();
+    let (x, rest) = vectors.split_at_mut(n);
+    let (r, rest) = rest.split_at_mut(n);
+    let (p, product) = rest.split_at_mut(n);
+    one_pass(a, x, r, p, product, thresholds, rs)
 }
 
 // Place 0 for the right side b. Answers r·r.
-pub fn begin_in_row(a: &Matrix, b: &[f64], vectors: &mut [f64], n: usize) -> f64
-    requires { (n ≡ rows a.now) × (length b.now ≡ n) × (length vectors.old ≡ 4 * n) }
-    ensures { Placed.Begun vectors.old vectors.new n (Placed.row_of n) (begun (matrix_of a.now) b.now) result }
+pub fn begin_in_row(a: &Matrix, b: &[f64], vectors: &mut [f64]) -> f64
+    requires { (length b.now ≡ rows a.now) × (length vectors.old ≡ 4 * rows a.now) }
+    ensures { Placed.Begun vectors.old vectors.new (rows a.now) (Placed.row_of (rows a.now)) (begun (matrix_of a.now) b.now) result }
 {
-    let half = 2 * n;
-    let (xr, pq) = vectors.split_at_mut(half);
-    begin_on_halves(a, b, xr, pq, n)
-}
-
-// One pass beside, where r and p are the halves of a slice.
-fn beside_on_halves(
-    a: &Matrix,
-    x: &mut [f64],
-    rp: &mut [f64],
-    n: usize,
-    tiny: f64,
-    tolerance: f64,
-    rs: f64,
-) -> Pass
-    requires { (n ≡ rows a.now) × (length x.old ≡ n) × (length rp.old ≡ 2 * n) }
-    ensures { Passes.Passes (matrix_of a.now) tiny tolerance (Passes.solve x.old (take n rp.old) (drop n rp.old) rs) x.new (take n rp.new) (drop n rp.new) result }
-{
-    let (r, p) = rp.split_at_mut(n);
-    pass_beside(a, x, r, p, tiny, tolerance, rs)
-}
-
-// One pass beside, where x, r and p are the thirds of a slice.
-fn beside_on_thirds(
-    a: &Matrix,
-    vectors: &mut [f64],
-    n: usize,
-    tiny: f64,
-    tolerance: f64,
-    rs: f64,
-) -> Pass
-    requires { (n ≡ rows a.now) × (length vectors.old ≡ 3 * n) }
-    ensures { Beside.PassedBeside vectors.old vectors.new n (pass tiny (matrix_of a.now) tolerance (Beside.vectors_of vectors.old n rs)) result }
-{
-    let (x, rp) = vectors.split_at_mut(n);
-    beside_on_halves(a, x, rp, n, tiny, tolerance, rs)
+    let n = a.rows();
+    let (x, rest) = vectors.split_at_mut(n);
+    let (r, rest) = rest.split_at_mut(n);
+    let (p, product) = rest.split_at_mut(n);
+    begin(a, b, x, r, p, product)
 }
 
 // One pass beside: the vectors are x, r and p, and what stands behind them stays.
-pub fn pass_beside_in_row(
-    a: &Matrix,
-    vectors: &mut [f64],
-    n: usize,
-    tiny: f64,
-    tolerance: f64,
-    rs: f64,
-) -> Pass
-    requires { (n ≡ rows a.now) × (3 * n ≤ length vectors.old) }
-    ensures { Beside.PassedBeside vectors.old vectors.new n (pass tiny (matrix_of a.now) tolerance (Beside.vectors_of vectors.old n rs)) result }
+pub fn pass_beside_in_row(a: &Matrix, vectors: &mut [f64], thresholds: Thresholds, rs: f64) -> Pass
+    requires { 3 * rows a.now ≤ length vectors.old }
+    ensures { Beside.PassedBeside vectors.old vectors.new (rows a.now)
+        (pass thresholds.tiny (matrix_of a.now) thresholds.tolerance (Beside.vectors_of vectors.old (rows a.now) rs)) result }
 {
-    let front = &mut vectors[..3 * n];
-    beside_on_thirds(a, front, n, tiny, tolerance, rs)
+    let n = a.rows();
+    let (x, rest) = vectors.split_at_mut(n);
+    let (r, rest) = rest.split_at_mut(n);
+    let (p, _) = rest.split_at_mut(n);
+    pass_beside(a, x, r, p, thresholds, rs)
 }

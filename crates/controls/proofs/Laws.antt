@@ -12,7 +12,7 @@ use Rattle.binary64.specs.Number.{pick}
 use Rattle.binary64.specs.NumberLaws.{both}
 use Rattle.pde.specs.Path.{length_of}
 use Rattle.format.specs.Content.{Content, max_vertices, max_triangles, max_limit, max_room}
-use Rattle.format.specs.Refusal.{◌then◌}
+use Rattle.format.specs.Refusal.{◌then◌, whole_fault}
 use Rattle.format.specs.Sheet.{Parsed, accepted, refused, parse}
 use Rattle.format.specs.SheetLaws.{refuses}
 use Rattle.sheet.specs.Answer.{checked_of}
@@ -22,7 +22,7 @@ use Rattle.model.specs.Machine.{Call, fresh, needs, short}
 use Rattle.work.specs.declared.Run.{Run}
 use Rattle.work.specs.Record.{no_run}
 use Rattle.image.specs.Answer.{Answer}
-use Rattle.image.specs.Calls.{Buffers, held_fault, late_fault, fault, run_after, buffers_after, Does}
+use Rattle.image.specs.Calls.{Buffers, held_fault, fault, buffers_after, Does}
 use Rattle.image.proofs.AcceptedLaws.{then_first, then_second, then_none}
 use Rattle.image.specs.Image.{run_of, image, rest_of}
 use Rattle.image.specs.Points.{points_of}
@@ -30,8 +30,8 @@ use Rattle.image.specs.Replay.{Opening, opening, opened_by, opened, Opens}
 use Rattle.image.specs.CallLaws.{lacking}
 use Rattle.image.proofs.ReplayTheorem.{replayed-refused}
 use Rattle.image.specs.Shown.{lengths_of}
-use Rattle.records.specs.Numbers.{fits, flagged, run_from, wholes_run, reals_run}
-use Rattle.controls.specs.Controls.{flag_fault, held_fault_in, fault_in, refusal_or8, open_fault_in, length_fault_in, needed_by, needed_fault, OpenedIn, Called, Measured, Needed}
+use Rattle.records.specs.Numbers.{Listed, fits, flagged, run_from, run_put}
+use Rattle.controls.specs.Controls.{flag_fault, flags_fault, held_fault_in, fault_in, refusal_or8, open_fault_in, length_fault_in, needed_by, needed_fault, OpenedIn, Called, Measured, Needed}
 
 -- a flag's fault is one
 flag_refuses : (k : ℕ) → flag_fault k ≡ 0 → ⊥
@@ -41,64 +41,70 @@ flag_refuses k = go (eqb k 8)
     go true e = omega (arith, e)
     go false e = omega (arith, e)
 
-module _ (ns : List ℕ) (xs : List Float) (b : Buffers) where
-  pub unfit : fits ns xs ≡ false → 8 ≡ held_fault_in ns xs b
-  unfolding held_fault_in
-  unfit e = rw e
+module _ (l : Listed) (b : Buffers) where
+  abbrev held : ℕ
+  held = held_fault (run_from l) b
 
-  pub unflagged : fits ns xs ≡ true → flagged ns ≡ false → (k : ℕ) → k ≡ held_fault (run_from ns xs) b → flag_fault k ≡ held_fault_in ns xs b
+  -- what refuses the lists or the flags refuses any call
+  pub flags_first : (k : ℕ) → k ≡ flags_fault l b → (k ≡ 0 → ⊥) → k ≡ held_fault_in l b
   unfolding held_fault_in
-  unflagged e f k h = rw (e, f, h)
+  flags_first k e n = go (fits l) (flagged l) e
+    where
+      go : (f g : Bool) → k ≡ pick f (pick g 0 (flag_fault held)) 8 → k ≡ pick f (pick g held (flag_fault held)) 8
+      go true true e = absurd (n e)
+      go true false e = e
+      go false g e = e
 
-  pub sound : fits ns xs ≡ true → flagged ns ≡ true → held_fault (run_from ns xs) b ≡ held_fault_in ns xs b
+  -- where nothing refuses them, what refuses the record does
+  pub flags_passed : 0 ≡ flags_fault l b → held_fault (run_from l) b ≡ held_fault_in l b
   unfolding held_fault_in
-  sound e f = rw (e, f)
+  flags_passed e = go (fits l) (flagged l) e
+    where
+      go : (f g : Bool) → 0 ≡ pick f (pick g 0 (flag_fault held)) 8 → held ≡ pick f (pick g held (flag_fault held)) 8
+      go true true e = refl
+      go true false e = absurd (flag_refuses held (sym e))
+      go false g e = absurd (omega (arith, e))
 
-module _ (c : Call) (ns : List ℕ) (xs : List Float) (b : Buffers) where
-  held_first : (k : ℕ) → k ≡ held_fault_in ns xs b → (k ≡ 0 → ⊥) → k ≡ fault_in c ns xs b
+module _ (c : Call) (l : Listed) (b : Buffers) where
+  held_first : (k : ℕ) → k ≡ held_fault_in l b → (k ≡ 0 → ⊥) → k ≡ fault_in c l b
   unfolding fault_in
   held_first k e n = e ∙ sym (then_first _ _ (λ z. n (e ∙ z)))
 
-  sound_call : fits ns xs ≡ true → flagged ns ≡ true → fault c (run_from ns xs) b ≡ fault_in c ns xs b
+  sound_call : 0 ≡ flags_fault l b → fault c (run_from l) b ≡ fault_in c l b
   unfolding fault_in fault
-  sound_call e f = rw (sound ns xs b e f)
+  sound_call e = rw (flags_passed l b e)
 
-  refusing : (k : ℕ) → k ≡ fault_in c ns xs b → (k ≡ 0 → ⊥) → Called c ns xs b k ns xs b
+  refusing : (k : ℕ) → k ≡ fault_in c l b → (k ≡ 0 → ⊥) → Called c l b k l b
   refusing k e n =
-      let f : eqb (fault_in c ns xs b) 0 ≡ false = ne_eqb (fault_in c ns xs b) 0 (λ z. n (e ∙ z)) in
-      record { said = e; wholes = rw f; reals = rw f; held = rw f }
+      let f : eqb (fault_in c l b) 0 ≡ false = ne_eqb (fault_in c l b) 0 (λ z. n (e ∙ z)) in
+      record { said = e; lists = rw f; held = rw f }
 
-  -- the lists have not the places
-  pub call_unfit : fits ns xs ≡ false → Called c ns xs b 8 ns xs b
-  call_unfit e = refusing 8 (held_first 8 (unfit ns xs b e) (λ z. omega (arith, z))) (λ z. omega (arith, z))
+  -- the lists or the flags are refused
+  pub call_flags : (k : ℕ) → k ≡ flags_fault l b → (k ≡ 0 → ⊥) → Called c l b k l b
+  call_flags k e n = refusing k (held_first k (flags_first l b k e n) n) n
 
-  -- a flag is neither 0 nor 1
-  pub call_unflagged : fits ns xs ≡ true → flagged ns ≡ false → (k : ℕ) → k ≡ held_fault (run_from ns xs) b → Called c ns xs b (flag_fault k) ns xs b
-  call_unflagged e f k h = refusing (flag_fault k) (held_first (flag_fault k) (unflagged ns xs b e f k h) (flag_refuses k)) (flag_refuses k)
-
-  module _ (e : fits ns xs ≡ true) (f : flagged ns ≡ true) {r : Run} (same : r ≡ run_from ns xs) {a : Answer} {b' : Buffers} (does : Does c r b a b') where
-    d : Does c (run_from ns xs) b a b'
+  module _ (e : 0 ≡ flags_fault l b) {r : Run} (same : r ≡ run_from l) {a : Answer} {b' : Buffers} (does : Does c r b a b') where
+    d : Does c (run_from l) b a b'
     d = rw (← same) does
 
-    told : a.refused ≡ fault_in c ns xs b
-    told = d.said ∙ sound_call e f
+    told : a.refused ≡ fault_in c l b
+    told = d.said ∙ sound_call e
 
     -- the call is refused
-    pub call_refused : (a.refused ≡ 0 → ⊥) → Called c ns xs b a.refused ns xs b'
+    pub call_refused : (a.refused ≡ 0 → ⊥) → Called c l b a.refused l b'
     unfolding buffers_after
     call_refused n =
-        let g : eqb (fault c (run_from ns xs) b) 0 ≡ false = ne_eqb (fault c (run_from ns xs) b) 0 (λ z. n (d.said ∙ z)) in
+        let g : eqb (fault c (run_from l) b) 0 ≡ false = ne_eqb (fault c (run_from l) b) 0 (λ z. n (d.said ∙ z)) in
         let unchanged : b' ≡ b = d.held ∙ rw g in
         rw unchanged (refusing a.refused told n)
 
     -- the call is made, and the record's numbers are put
-    pub call_made : a.refused ≡ 0 → (ns' : List ℕ) (xs' : List Float) → ns' ≡ wholes_run a.run ns → xs' ≡ reals_run a.run xs → Called c ns xs b a.refused ns' xs' b'
-    call_made z ns' xs' p q =
-        let g : fault_in c ns xs b ≡ 0 = sym told ∙ z in
+    pub call_made : a.refused ≡ 0 → (l' : Listed) → l' ≡ run_put a.run l → Called c l b a.refused l' b'
+    call_made z l' p =
+        let g : fault_in c l b ≡ 0 = sym told ∙ z in
         record {
           said = told;
-          wholes = rw g (p ∙ ap (λ (r : Run). wholes_run r ns) d.left);
-          reals = rw g (q ∙ ap (λ (r : Run). reals_run r xs) d.left);
+          lists = rw g (p ∙ ap (λ (r : Run). run_put r l) d.left);
           held = rw g d.held;
         }
 
@@ -124,25 +130,25 @@ refused_or_8 sheet b = go (parse sheet) (refuses sheet)
     go (refused k) n = kept k (n k refl)
     go (accepted c) n = rw (by c (eqb (short (needs (task c)) (lengths_of b)) 0)) (space (lacking (needs (task c)) (lengths_of b)))
 
-module _ (sheet ns : List ℕ) (xs : List Float) (b : Buffers) where
-  open_refusing : (k : ℕ) → k ≡ open_fault_in sheet ns xs b → (k ≡ 0 → ⊥) → OpenedIn sheet ns xs b k ns xs b
+module _ (sheet : List ℕ) (l : Listed) (b : Buffers) where
+  open_refusing : (k : ℕ) → k ≡ open_fault_in sheet l b → (k ≡ 0 → ⊥) → OpenedIn sheet l b k l b
   open_refusing k e n =
-      let f : eqb (open_fault_in sheet ns xs b) 0 ≡ false = ne_eqb (open_fault_in sheet ns xs b) 0 (λ z. n (e ∙ z)) in
-      record { said = e; wholes = rw f; reals = rw f; held = rw f }
+      let f : eqb (open_fault_in sheet l b) 0 ≡ false = ne_eqb (open_fault_in sheet l b) 0 (λ z. n (e ∙ z)) in
+      record { said = e; lists = rw f; held = rw f }
 
   -- the lists have not the places
-  pub open_unfit : fits ns xs ≡ false → (k : ℕ) → k ≡ refusal_or8 (checked_of (parse sheet)) → OpenedIn sheet ns xs b k ns xs b
+  pub open_unfit : fits l ≡ false → (k : ℕ) → k ≡ refusal_or8 (checked_of (parse sheet)) → OpenedIn sheet l b k l b
   unfolding open_fault_in
   open_unfit e k h =
-      let g : k ≡ open_fault_in sheet ns xs b = h ∙ refused_or_8 sheet b ∙ rw e in
+      let g : k ≡ open_fault_in sheet l b = h ∙ refused_or_8 sheet b ∙ rw e in
       open_refusing k g (λ z. then_8 (opened sheet b).answer.refused (sym (refused_or_8 sheet b) ∙ sym h ∙ z))
     where
       then_8 : (j : ℕ) → (j then 8) ≡ 0 → ⊥
       then_8 zero z = omega (arith, z)
       then_8 (suc j) z = omega (arith, z)
 
-  module _ (e : fits ns xs ≡ true) {a : Answer} {b' : Buffers} (o : Opens sheet b a b') where
-    told_open : a.refused ≡ open_fault_in sheet ns xs b
+  module _ (e : fits l ≡ true) {a : Answer} {b' : Buffers} (o : Opens sheet b a b') where
+    told_open : a.refused ≡ open_fault_in sheet l b
     unfolding open_fault_in
     told_open = ap (λ (x : Answer). x.refused) o.answer ∙ rw e (then_zero (opened sheet b).answer.refused)
       where
@@ -151,47 +157,46 @@ module _ (sheet ns : List ℕ) (xs : List Float) (b : Buffers) where
         then_zero (suc j) = refl
 
     -- the sheet or the space is refused
-    pub open_refused : (a.refused ≡ 0 → ⊥) → OpenedIn sheet ns xs b a.refused ns xs b'
+    pub open_refused : (a.refused ≡ 0 → ⊥) → OpenedIn sheet l b a.refused l b'
     open_refused n =
         let unchanged : b' ≡ b = ((replayed-refused sheet [] [] b a b' o n).refuses (λ z. n (ap (λ (x : Answer). x.refused) o.answer ∙ z))).2 in
         rw unchanged (open_refusing a.refused told_open n)
 
     -- the run is open, and its record's numbers are put
-    pub open_made : a.refused ≡ 0 → (ns' : List ℕ) (xs' : List Float) → ns' ≡ wholes_run a.run ns → xs' ≡ reals_run a.run xs → OpenedIn sheet ns xs b 0 ns' xs' b'
-    open_made z ns' xs' p q =
-        let g : open_fault_in sheet ns xs b ≡ 0 = sym told_open ∙ z in
+    pub open_made : a.refused ≡ 0 → (l' : Listed) → l' ≡ run_put a.run l → OpenedIn sheet l b 0 l' b'
+    open_made z l' p =
+        let g : open_fault_in sheet l b ≡ 0 = sym told_open ∙ z in
         record {
           said = sym g;
-          wholes = rw g (p ∙ ap (λ (x : Answer). wholes_run x.run ns) o.answer);
-          reals = rw g (q ∙ ap (λ (x : Answer). reals_run x.run xs) o.answer);
+          lists = rw g (p ∙ ap (λ (x : Answer). run_put x.run l) o.answer);
           held = rw g o.held;
         }
 
 -- ---- the length
 
-module _ (ns : List ℕ) (xs : List Float) (b : Buffers) (out : List Float) where
+module _ (l : Listed) (b : Buffers) (out : List Float) where
   -- the record is refused
-  pub length-held : (k : ℕ) → k ≡ held_fault_in ns xs b → (k ≡ 0 → ⊥) → Measured ns xs b out k out
+  pub length-held : (k : ℕ) → k ≡ held_fault_in l b → (k ≡ 0 → ⊥) → Measured l b out k out
   unfolding length_fault_in
   length-held k e n =
-      let g : k ≡ length_fault_in ns xs b out = e ∙ sym (then_first _ _ (λ z. n (e ∙ z))) in
-      let f : eqb (length_fault_in ns xs b out) 0 ≡ false = ne_eqb (length_fault_in ns xs b out) 0 (λ z. n (g ∙ z)) in
+      let g : k ≡ length_fault_in l b out = e ∙ sym (then_first _ _ (λ z. n (e ∙ z))) in
+      let f : eqb (length_fault_in l b out) 0 ≡ false = ne_eqb (length_fault_in l b out) 0 (λ z. n (g ∙ z)) in
       record { said = g; left = rw f }
 
-  module _ {k : ℕ} (e : k ≡ held_fault_in ns xs b) (z : k ≡ 0) where
-    late : length_fault_in ns xs b out ≡ pick (leb 1 (length out)) 0 8
+  module _ {k : ℕ} (e : k ≡ held_fault_in l b) (z : k ≡ 0) where
+    late : length_fault_in l b out ≡ pick (leb 1 (length out)) 0 8
     unfolding length_fault_in
     late = then_second _ _ (sym e ∙ z)
 
     -- there is no place for it
-    pub length-short : leb 1 (length out) ≡ false → Measured ns xs b out 8 out
+    pub length-short : leb 1 (length out) ≡ false → Measured l b out 8 out
     length-short f =
-        let g : length_fault_in ns xs b out ≡ 8 = late ∙ rw f in
+        let g : length_fault_in l b out ≡ 8 = late ∙ rw f in
         record { said = sym g; left = rw g }
 
-    pub length_made : 1 ≤ length out → (x : Float) → x ≡ length_of (points_of (run_from ns xs) b.path) → Measured ns xs b out 0 (set out 0 x)
+    pub length_made : 1 ≤ length out → (x : Float) → x ≡ length_of (points_of (run_from l) b.path) → Measured l b out 0 (set out 0 x)
     length_made f x h =
-        let g : length_fault_in ns xs b out ≡ 0 = late ∙ rw (le-leb 1 (length out) f) in
+        let g : length_fault_in l b out ≡ 0 = late ∙ rw (le-leb 1 (length out) f) in
         record { said = sym g; left = rw (g, h) }
 
 -- ---- the space rule
@@ -204,19 +209,20 @@ pub record Asked (n t limit room places : ℕ) : Type 0 where
   pub points : room ≤ max_room
   pub long : 3 ≤ places
 
-pub asked : (n t limit room places : ℕ) → needed_by n t limit room places ≡ 0 → Asked n t limit room places
+pub asked : {n t limit room places : ℕ} → 0 ≡ needed_by n t limit room places → Asked n t limit room places
 unfolding needed_by
-asked n t limit room places h =
-    let first = then_none (pick (leb n max_vertices && leb t max_triangles) 0 2) (pick (leb limit max_limit && (leb 1 room && leb room max_room)) 0 7 then pick (leb 3 places) 0 8) h in
-    let second = then_none (pick (leb limit max_limit && (leb 1 room && leb room max_room)) 0 7) (pick (leb 3 places) 0 8) first.1 in
+asked {n} {t} {limit} {room} {places} h =
+    let first = then_none (pick (leb n max_vertices && leb t max_triangles) 0 2) ((whole_fault 0 max_limit limit then whole_fault 1 max_room room) then pick (leb 3 places) 0 8) (sym h) in
+    let second = then_none (whole_fault 0 max_limit limit then whole_fault 1 max_room room) (pick (leb 3 places) 0 8) first.1 in
+    let settings = then_none (whole_fault 0 max_limit limit) (whole_fault 1 max_room room) second.0 in
     let counts = both (leb n max_vertices) (leb t max_triangles) (nothing _ 1 first.0) in
-    let settings = both (leb limit max_limit) (leb 1 room && leb room max_room) (nothing _ 6 second.0) in
-    let rooms = both (leb 1 room) (leb room max_room) settings.1 in
+    let passes = both (leb 0 limit) (leb limit max_limit) (nothing _ 6 settings.0) in
+    let points = both (leb 1 room) (leb room max_room) (nothing _ 6 settings.1) in
     record {
       vertices = leb-true _ _ counts.0;
       triangles = leb-true _ _ counts.1;
-      passes = leb-true _ _ settings.0;
-      points = leb-true _ _ rooms.1;
+      passes = leb-true _ _ passes.1;
+      points = leb-true _ _ points.1;
       long = leb-true _ _ (nothing _ 7 second.1);
     }
   where

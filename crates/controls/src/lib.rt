@@ -6,16 +6,19 @@ ghost use Rattle.std.specs.Prelude.{◌≡◌, length};
 ghost use Rattle.refusal.specs.Refusal.{number_of, fault};
 ghost use Rattle.image.specs.Call.{machine_call};
 ghost use Rattle.image.specs.Calls.{buffers};
-ghost use Rattle.image.specs.Parts.{field_of, norms_of, gradients_of};
 ghost use Rattle.image.specs.Points.{points_of};
-ghost use Rattle.records.specs.Numbers.{run_from};
+ghost use Rattle.showing.specs.Shown.{shown_of};
+ghost use Rattle.sheet.specs.Answer.{checked_of};
+ghost use Rattle.format.specs.Sheet.{parse};
+ghost use Rattle.records.specs.Numbers.{listed, listed_in, run_from};
 ghost use Rattle.controls.specs.Controls as Controls;
 
+use format::faults::whole_fault;
 use records::lists::Lists;
 use refusal::Refusal;
 use run::Call;
 use showing::Shown;
-use work::Plan;
+use work::{Counted, Plan};
 
 // What refuses a record whose flags are not 0 or 1, from what refuses it else.
 fn flag_refusal(found: Result<(), Refusal>) -> Refusal
@@ -27,20 +30,29 @@ fn flag_refusal(found: Result<(), Refusal>) -> Refusal
     }
 }
 
-// What refuses any call.
-fn held_fault(floats: &[f64], words: &[u32], path: &[f64], lists: &Lists) -> Result<(), Refusal>
-    ensures { fault result ≡ Controls.held_fault_in lists.now.wholes.now lists.now.reals.now (buffers floats.now words.now path.now) }
+// What refuses lists without the places of a record, or a record whose flags are not 0 or 1.
+fn flags_fault(floats: &[f64], words: &[u32], path: &[f64], lists: &Lists) -> Result<(), Refusal>
+    ensures { fault result ≡ Controls.flags_fault (listed_in lists.now) (buffers floats.now words.now path.now) }
 {
     if !lists.fits() {
         return Err(Refusal::Space);
     }
-    let found = gate::held_fault(lists.run(), floats, words, path);
     if lists.flagged() {
-        return found;
+        return Ok(());
     }
+    let found = gate::held_fault(lists.run(), floats, words, path);
     Err(flag_refusal(found))
 }
 
+// What refuses any call.
+fn held_fault(floats: &[f64], words: &[u32], path: &[f64], lists: &Lists) -> Result<(), Refusal>
+    ensures { fault result ≡ Controls.held_fault_in (listed_in lists.now) (buffers floats.now words.now path.now) }
+{
+    flags_fault(floats, words, path, lists)?;
+    gate::held_fault(lists.run(), floats, words, path)
+}
+
+// Makes a call on the run of the lists, and puts the record's numbers.
 pub fn call(
     call: Call,
     floats: &mut [f64],
@@ -49,20 +61,24 @@ pub fn call(
     wholes: &mut [u64],
     reals: &mut [f64],
 ) -> Result<(), Refusal>
-    ensures { Controls.Called (machine_call call) wholes.old reals.old (buffers floats.old words.now path.old) (fault result) wholes.new reals.new (buffers floats.new words.now path.new) }
+    ensures { Controls.Called (machine_call call) (listed wholes.old reals.old) (buffers floats.old words.now path.old) (fault result) (listed wholes.new reals.new) (buffers floats.new words.now path.new) }
 {
     let lists = Lists { wholes, reals };
-    if !lists.fits() {
-        return Err(Refusal::Space);
-    }
+    flags_fault(floats, words, path, &lists)?;
     let before = lists.run();
-    if !lists.flagged() {
-        let found = gate::held_fault(before, floats, words, path);
-        return Err(flag_refusal(found));
-    }
     let after = run::perform(before, call, floats, words, path)?;
     records::putting::put_run(after, wholes, reals);
     Ok(())
+}
+
+// What refuses to open a sheet where there is no place for a record: its own refusal comes first.
+fn sheet_refusal(sheet: &[u8]) -> Refusal
+    ensures { number_of result ≡ Controls.refusal_or8 (checked_of (parse sheet.now)) }
+{
+    match sheet::check_sheet(sheet) {
+        Err(refusal) => refusal,
+        Ok(_) => Refusal::Space,
+    }
 }
 
 // Opens a sheet, and puts the record's numbers.
@@ -74,12 +90,11 @@ pub fn open(
     wholes: &mut [u64],
     reals: &mut [f64],
 ) -> Result<(), Refusal>
-    ensures { Controls.OpenedIn sheet.now wholes.old reals.old (buffers floats.old words.old path.old) (fault result) wholes.new reals.new (buffers floats.new words.new path.new) }
+    ensures { Controls.OpenedIn sheet.now (listed wholes.old reals.old) (buffers floats.old words.old path.old) (fault result) (listed wholes.new reals.new) (buffers floats.new words.new path.new) }
 {
     let lists = Lists { wholes, reals };
     if !lists.fits() {
-        sheet::check_sheet(sheet)?;
-        return Err(Refusal::Space);
+        return Err(sheet_refusal(sheet));
     }
     let run = opening::open(sheet, floats, words, path)?;
     records::putting::put_run(run, wholes, reals);
@@ -94,7 +109,7 @@ pub fn length(
     lists: &Lists,
     out: &mut [f64],
 ) -> Result<(), Refusal>
-    ensures { Controls.Measured lists.now.wholes.now lists.now.reals.now (buffers floats.now words.now path.now) out.old (fault result) out.new }
+    ensures { Controls.Measured (listed_in lists.now) (buffers floats.now words.now path.now) out.old (fault result) out.new }
 {
     held_fault(floats, words, path, lists)?;
     if out.is_empty() {
@@ -104,20 +119,20 @@ pub fn length(
     Ok(())
 }
 
-// Where a part starts that is not empty.
+// Where a part starts that is not empty; 0 for an empty one, since C is told a number.
 fn start_by(at: usize, count: usize) -> usize
     ensures { result ≡ Controls.start_by at count }
 {
     if count == 0 { 0 } else { at }
 }
 
-// What a run shows: where each part starts in its buffer, and how many doubles it has.
+// ---- what a run shows: where each part starts in its buffer, and how many doubles it has
 
-// Of a part that stands at a place, where there is room for the answer, and for a record in the lists.
+// Hands out where a part starts and how many doubles it has; `Space` where the answer has no two places or the lists hold no record. The place is beside the part, since C is told where it stands in its buffer.
 fn hand(at: usize, part: &[f64], lists: &Lists, out: &mut [u64]) -> Result<(), Refusal>
-    ensures { Controls.Handed at part.now lists.now.wholes.now lists.now.reals.now out.old (fault result) out.new }
+    ensures { Controls.Handed at part.now (listed_in lists.now) out.old (fault result) out.new }
 {
-    if !(lists.fits() & (2 <= out.len())) {
+    if !(lists.fits() && 2 <= out.len()) {
         return Err(Refusal::Space);
     }
     out[0] = start_by(at, part.len()) as u64;
@@ -125,50 +140,30 @@ fn hand(at: usize, part: &[f64], lists: &Lists, out: &mut [u64]) -> Result<(), R
     Ok(())
 }
 
-#[tactic(auto, unfolding(crate::specs::Controls::field_at, showing::specs::Shown::part_of))]
-pub fn field(floats: &[f64], lists: &Lists, out: &mut [u64]) -> Result<(), Refusal>
-    ensures { Controls.Handed (Controls.field_at (run_from lists.now.wholes.now lists.now.reals.now).plan) (field_of (run_from lists.now.wholes.now lists.now.reals.now) floats.now) lists.now.wholes.now lists.now.reals.now out.old (fault result) out.new }
+// Where field, norms or gradients start in the floats, and how many doubles they have.
+pub fn show(shown: Shown, floats: &[f64], lists: &Lists, out: &mut [u64]) -> Result<(), Refusal>
+    ensures { Controls.Handed (Controls.shown_at shown (run_from (listed_in lists.now))) (shown_of shown (run_from (listed_in lists.now)) floats.now) (listed_in lists.now) out.old (fault result) out.new }
 {
     let run = lists.run();
-    let part = Shown::Field.part(run);
-    hand(part.at, showing::field(run, floats), lists, out)
+    let at = shown.part(run).at;
+    hand(at, shown.of(run, floats), lists, out)
 }
 
-#[tactic(auto, unfolding(crate::specs::Controls::norms_at, showing::specs::Shown::part_of))]
-pub fn norms(floats: &[f64], lists: &Lists, out: &mut [u64]) -> Result<(), Refusal>
-    ensures { Controls.Handed (Controls.norms_at (run_from lists.now.wholes.now lists.now.reals.now).plan) (norms_of (run_from lists.now.wholes.now lists.now.reals.now) floats.now) lists.now.wholes.now lists.now.reals.now out.old (fault result) out.new }
-{
-    let run = lists.run();
-    let part = Shown::Norms.part(run);
-    hand(part.at, showing::norms(run, floats), lists, out)
-}
-
-#[tactic(auto, unfolding(crate::specs::Controls::gradients_at, showing::specs::Shown::part_of))]
-pub fn gradients(floats: &[f64], lists: &Lists, out: &mut [u64]) -> Result<(), Refusal>
-    ensures { Controls.Handed (Controls.gradients_at (run_from lists.now.wholes.now lists.now.reals.now).plan) (gradients_of (run_from lists.now.wholes.now lists.now.reals.now) floats.now) lists.now.wholes.now lists.now.reals.now out.old (fault result) out.new }
-{
-    let run = lists.run();
-    let part = Shown::Gradients.part(run);
-    hand(part.at, showing::gradients(run, floats), lists, out)
-}
-
+// Where the path's points start in its buffer, and how many doubles they have.
 pub fn points(path: &[f64], lists: &Lists, out: &mut [u64]) -> Result<(), Refusal>
-    ensures { Controls.Handed 0 (points_of (run_from lists.now.wholes.now lists.now.reals.now) path.now) lists.now.wholes.now lists.now.reals.now out.old (fault result) out.new }
+    ensures { Controls.Handed 0 (points_of (run_from (listed_in lists.now)) path.now) (listed_in lists.now) out.old (fault result) out.new }
 {
     hand(0, showing::points(lists.run(), path), lists, out)
 }
 
 // What refuses to tell the space of these counts and settings, for an answer of so many places.
 #[tactic(auto, unfolding(crate::specs::Controls::needed_by))]
-fn needed_fault(n: u64, t: u64, limit: u64, room: u64, places: usize) -> Result<(), Refusal>
-    ensures { fault result ≡ Controls.needed_by n t limit room places }
+fn needed_fault(plan: &Plan, places: usize) -> Result<(), Refusal>
+    ensures { fault result ≡ Controls.needed_by plan.now.n plan.now.t plan.now.limit plan.now.room places }
 {
-    if !((n <= 4096) & (t <= 8192)) {
-        return Err(Refusal::TooMany);
-    }
-    if !((limit <= 100000) & ((1 <= room) & (room <= 1000000))) {
-        return Err(Refusal::OutOfRange);
-    }
+    Counted::of(*plan).ok_or(Refusal::TooMany)?;
+    whole_fault(0, format::MAX_LIMIT, plan.limit as u64)?;
+    whole_fault(1, format::MAX_ROOM, plan.room as u64)?;
     if 3 <= places {
         Ok(())
     } else {
@@ -180,7 +175,6 @@ fn needed_fault(n: u64, t: u64, limit: u64, room: u64, places: usize) -> Result<
 pub fn space_needed(n: u64, t: u64, limit: u64, room: u64, out: &mut [u64]) -> Result<(), Refusal>
     ensures { Controls.Needed n t limit room out.old (fault result) out.new }
 {
-    needed_fault(n, t, limit, room, out.len())?;
     let plan = Plan {
         n: n as usize,
         t: t as usize,
@@ -190,7 +184,8 @@ pub fn space_needed(n: u64, t: u64, limit: u64, room: u64, out: &mut [u64]) -> R
         step: 0.0,
         start: None,
     };
-    let space = plan.space();
+    needed_fault(&plan, out.len())?;
+    let space = Counted { plan }.space();
     out[0] = space.floats as u64;
     out[1] = space.words as u64;
     out[2] = space.path as u64;

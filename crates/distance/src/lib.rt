@@ -12,14 +12,11 @@ pub fn is_nearer(x: f64, y: f64, least: f64) -> bool
     ensures { result ≡ (lt least (root x) && lt (root x) (root y)) }
 {
     // the first one found: the root of an infinite y is infinite, and that of x above a small least
-    if (1e-20 < x) & (x < y) & (y == 1.0 / 0.0) & (least < 1e-11) {
+    if (1e-20 < x) & (x < y) & (y == f64::INFINITY) & (least < 1e-11) {
         return true;
     }
     let d = root::sqrt(x);
-    if d > least {
-        return d < root::sqrt(y);
-    }
-    false
+    d > least && d < root::sqrt(y)
 }
 
 // Whether x lies strictly between the squares of low and high, each rounded.

@@ -14,19 +14,18 @@ use Rattle.stretch.specs.Stretch.{part}
 use Rattle.stretch.specs.StretchLaws.{length_part, part_splice-before, part_splice-same}
 use Rattle.mesh.specs.Element.{flat}
 use Rattle.mesh.specs.Mesh.{triangle_count}
-use Rattle.mesh.specs.Work.{vertices_of, triangles_of, neighbours_of, tags_of}
+use Rattle.mesh.specs.Work.{vertices_of, triangles_of, neighbours_of, tags_of, field_of}
 use Rattle.mesh.specs.WorkLaws.{over_below}
 use Rattle.plane.specs.declared.Point.{Point}
 use Rattle.gradient.specs.Gradient.{gradient_on, gradients}
 use Rattle.gradient.specs.GradientLaws.{length-gradients, gradients_at_lem}
-use Rattle.pde.specs.declared.Crossing.{Crossing}
+use Rattle.pde.specs.Outcome.{Crossing}
 use Rattle.pde.specs.declared.Entry.{Entry}
-use Rattle.pde.specs.declared.Field.{Field}
+use Rattle.mesh.specs.declared.field.Field.{Field}
 use Rattle.pde.specs.Bounds.{StartIn, CrossingIn, containing_in, pick_start_in, along_in}
 use Rattle.pde.specs.Crossing.{gradient_at, crossing, crossing_along}
 use Rattle.pde.specs.PathLaws.{walked_more}
 use Rattle.pde.specs.StandsLaws.{crossing_stands}
-use Rattle.pde.specs.Work.{field_of}
 use Rattle.model.specs.Space.{factor}
 use Rattle.model.specs.Run.{rule}
 use Rattle.work.specs.declared.Plan.{Plan}
@@ -39,7 +38,8 @@ use Rattle.work.specs.Kinds.{found_by, lost_by}
 use Rattle.work.specs.Ready.{Ready, Standing}
 use Rattle.work.specs.StandingLaws.{set_out_standing, on_standing}
 use Rattle.work.specs.StartedLaws.{set_out-same, start_is}
-use Rattle.kinds.specs.Found.{found_on, entry_at}
+use Rattle.pde.specs.Standing.{entry_at}
+use Rattle.kinds.specs.Found.{found_on}
 use Rattle.kinds.specs.FoundLaws.{found_stands}
 use Rattle.dry.specs.Crossing.{gradient_by, crossing_on, crossed_by, started_by, Ground, Going, Shows, Grades, Crossed}
 

@@ -12,14 +12,13 @@ use lib.ListN.{length, take, drop}
 use lib.Ieee.{Float}
 use Rattle.stretch.specs.Stretch.{part, splice}
 use Rattle.stretch.specs.StretchLaws.{length_part, length-splice, part_lent, part_of_take, splice_is, part_splice-after, part_splice-same}
-use Rattle.mesh.specs.Work.{vertices_of, triangles_of, neighbours_of, tags_of, first_at}
+use Rattle.mesh.specs.Work.{vertices_of, triangles_of, neighbours_of, tags_of, first_at, field_of}
 use Rattle.plane.specs.declared.Point.{Point}
 use Rattle.pde.specs.declared.Entry.{Entry}
-use Rattle.pde.specs.declared.Field.{Field}
+use Rattle.mesh.specs.declared.field.Field.{Field}
 use Rattle.pde.specs.Crossing.{gradient_at}
-use Rattle.pde.specs.Stands.{FieldStands}
+use Rattle.mesh.specs.Stands.{FieldStands}
 use Rattle.pde.specs.StandsLaws.{triangles_count}
-use Rattle.pde.specs.Work.{field_of}
 use Rattle.work.specs.declared.Plan.{Plan}
 use Rattle.work.specs.declared.Stand.{Stand}
 use Rattle.work.specs.Layout.{at_x, at_gradients, at_norms}

@@ -8,11 +8,11 @@ use Rattle.mesh.specs.Element.{flat}
 use Rattle.mesh.specs.Mesh.{triangle_count}
 use Rattle.mesh.specs.Work.{Linked}
 use Rattle.gradient.specs.Gradient.{gradient_on}
-use Rattle.pde.specs.declared.Crossing.{Crossing}
+use Rattle.pde.specs.Outcome.{Crossing}
 use Rattle.pde.specs.declared.Entry.{Entry}
-use Rattle.pde.specs.declared.Field.{Field}
+use Rattle.mesh.specs.declared.field.Field.{Field}
 use Rattle.pde.specs.Crossing.{gradient_at, crossing_along}
-use Rattle.pde.specs.Stands.{FieldStands}
+use Rattle.mesh.specs.Stands.{FieldStands}
 use Rattle.model.specs.Run.{rule}
 use Rattle.work.specs.declared.Plan.{Plan}
 use Rattle.work.specs.declared.Stand.{Stand}
@@ -21,7 +21,8 @@ use Rattle.work.specs.Memory.{set_out_step, crossed_stand, dry}
 use Rattle.work.specs.Dry.{dry_of}
 use Rattle.work.specs.Kinds.{lost_by}
 use Rattle.work.specs.Ready.{Ready, Standing}
-use Rattle.kinds.specs.Found.{found_on, entry_at}
+use Rattle.pde.specs.Standing.{entry_at}
+use Rattle.kinds.specs.Found.{found_on}
 
 -- ---- one pass, by the field d
 

@@ -1,5 +1,5 @@
-// The library's functions under C names, for programs that compare them with the Rust. C hands over a point as its two numbers and any number of places to put numbers in,
-// and is told a number.
+// The library's functions under C names, for programs that compare them with the Rust. The C interface is why a point comes as its two numbers, why numbers are put into places of which there may be too few, which is tested first,
+// why an answer is a number, and why one function stands for each name.
 #![tactic(auto)]
 
 ghost use Rattle.std.specs.Prelude.{◌≡◌};
@@ -81,10 +81,7 @@ pub extern "C" fn cintrok_point_in_triangle(
     let a = Point { x: ax, y: ay };
     let b = Point { x: bx, y: by };
     let c = Point { x: cx, y: cy };
-    if plane::point_in_triangle(p, a, b, c) {
-        return 1;
-    }
-    0
+    u32::from(plane::point_in_triangle(p, a, b, c))
 }
 
 // 1 if the ray meets the segment, with the point's two numbers in `out`; 0 if not, and 2 if `out` has fewer than two places, with `out` as it was.

@@ -1,25 +1,34 @@
 -- What the tests on floats and on kinds tell of the definitions. Assumes nothing.
 use Prim.Native.Nat.{ℕ}
-use Rattle.std.specs.Prelude.{Result, Ok, Err}
+use Rattle.std.specs.Prelude.{Result, Ok, Err, is_some, ◌&&◌}
+use Rattle.std.specs.Bool.{beq}
 use Rattle.std.specs.Float.{float_is_finite}
 use mathlib.Core.Path.{◌≡◌, refl, sym, ap, ◌∙◌}
 use mathlib.Core.Bool.{Bool, true, false}
-use lib.Ieee.{Float, nan, inf, fin, binary64, is_nan, of_bits, to_bits, nan_bits}
+use lib.Ieee.{Float, nan, inf, fin, binary64, of_bits, nan_bits, lt}
 use lib.Ieee.Bits.{nan_bits_is}
+use Rattle.binary64.specs.Constants.{plus_zero}
 use Rattle.binary64.specs.Number.{pick}
 use Rattle.refusal.specs.Refusal.{number_of}
 use Rattle.refusal.specs.declared.Refusal.{Refusal}
-use Rattle.format.specs.declared.Setting as code
-use Rattle.format.specs.Setting.{read_of, number_read}
-use Rattle.format.specs.Refusal.{finite, coordinate, coordinate_fault}
-use Rattle.format.specs.Sheet.{setting_of}
-use Rattle.format.specs.RefusalLaws.{pick_true}
+use Rattle.format.specs.Setting.{number_read}
+use Rattle.format.specs.declared.Settings.{Settings}
+use Rattle.format.specs.Refusal.{finite, positive, coordinate, coordinate_fault, missing}
+use Rattle.format.specs.RefusalLaws.{pick_true, and_true}
 
 pub finite_is : (x : Float) → float_is_finite x ≡ finite x
 unfolding finite float_is_finite
 finite_is nan = refl
 finite_is (inf s) = refl
 finite_is (fin s m e) = refl
+
+pub positive_if : (x : Float) → finite x ≡ true → lt plus_zero x ≡ positive x
+unfolding positive
+positive_if x h = ap (λ (t : Bool). t && lt plus_zero x) (sym h)
+
+pub positive_else : (x : Float) → finite x ≡ false → false ≡ positive x
+unfolding positive
+positive_else x h = ap (λ (t : Bool). t && lt plus_zero x) (sym h)
 
 -- ---- a number by its pattern
 
@@ -32,13 +41,8 @@ coordinate_refused bits e h = go (nan_bits binary64 bits) refl h
         ap number_of k ∙ sym (pick_true 6 (pick (coordinate (of_bits binary64 bits)) 0 7) (sym (nan_bits_is binary64 bits) ∙ n))
     go false n h = cc
 
-pub quiet : (x : Float) → is_nan x ≡ true → 0x7ff8_0000_0000_0000 ≡ to_bits binary64 x
-unfolding is_nan to_bits
-quiet nan h = refl
-quiet (inf s) h = cc
-quiet (fin s m e) h = cc
+-- ---- settings
 
--- ---- kinds
-
-pub kind_is : (k j v : ℕ) (r : Result code.Setting Refusal) → k ≡ j → r ≡ read_of (setting_of j v) → r ≡ read_of (setting_of k v)
-kind_is k j v r e p = p ∙ ap (λ (i : ℕ). read_of (setting_of i v)) (sym e)
+pub none_missing : (s : Settings) → is_some s.step ≡ true → is_some s.room ≡ true → beq (is_some s.x) (is_some s.y) ≡ true → 0 ≡ missing s
+unfolding missing
+none_missing s p q r = sym (pick_true 0 5 (and_true (and_true p q) r))

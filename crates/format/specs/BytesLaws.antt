@@ -1,7 +1,8 @@
 -- Laws of little-endian numbers: reading and writing are inverse, for a number of any width and for any list of them. Assumes nothing.
 use Rattle.std.specs.Prelude.{ℕ, zero, suc, ◌+◌, ◌*◌, ◌/◌, ◌%◌, ◌^◌, ◌≤◌, ◌<◌, ◌≡◌, refl, List, [], ◌∷◌, ◌++◌, length, get_or, take, drop}
-use Rattle.std.proofs.Common.{zero-le, suc-le-suc, sym, ap, ap₂, ◌∙◌, subst, append_assoc, zero-add, suc-add, one-mul, mul-zero, pow-suc, le_of_suc-le-suc, div-lt_iff_lt-mul, arith, lit<, length-append, length-drop, get_or-drop, drop_at, drop-drop, take-add}
+use Rattle.std.proofs.Common.{zero-le, suc-le-suc, sym, ap, ap₂, ◌∙◌, subst, append_assoc, zero-add, suc-add, one-mul, mul-zero, pow-suc, le_of_suc-le-suc, div-lt_iff_lt-mul, add-one, arith, lit<, length-append, length-drop, get_or-drop, drop_at, drop-drop, take-add}
 use Rattle.std.proofs.Math.Nat.{pow-zero, one-le-pow}
+use Rattle.std.proofs.Math.Numerals.{add-two, add-three}
 use Rattle.std.proofs.Math.Arith.{lt-one}
 use Rattle.format.specs.Bytes.{Bytes, number, bytes, numbers, all_bytes}
 
@@ -59,6 +60,19 @@ number_add (suc v) w (b ∷ s) =
   where
     regroup : (m n p : ℕ) → b + 256 * (m + p * n) ≡ b + 256 * m + p * 256 * n
     regroup m n p = omega arith
+
+-- four bytes and eight
+pub number_four : (s : List ℕ) (k : ℕ) → number 4 (drop k s) ≡ get_or s k 0 + 256 * get_or s (k + 1) 0 + 65536 * get_or s (k + 2) 0 + 16777216 * get_or s (k + 3) 0
+unfolding number
+number_four s k =
+    let a : number 4 (drop k s) ≡ get_or s k 0 + 256 * number 3 (drop (suc k) s) = number-drop 3 k s in
+    let b : number 3 (drop (suc k) s) ≡ get_or s (suc k) 0 + 256 * number 2 (drop (suc (suc k)) s) = number-drop 2 (suc k) s in
+    let c : number 2 (drop (suc (suc k)) s) ≡ get_or s (suc (suc k)) 0 + 256 * number 1 (drop (suc (suc (suc k))) s) = number-drop 1 (suc (suc k)) s in
+    let d : number 1 (drop (suc (suc (suc k))) s) ≡ get_or s (suc (suc (suc k))) 0 + 256 * 0 = number-drop 0 (suc (suc (suc k))) s in
+    rw (add-one, add-two, add-three) (omega arith)
+
+pub number_eight : (s : List ℕ) (k : ℕ) → number 8 (drop k s) ≡ number 4 (drop k s) + 4294967296 * number 4 (drop (k + 4) s)
+number_eight s k = number_add 4 4 (drop k s) ∙ ap (λ (l : List ℕ). number 4 (drop k s) + 4294967296 * number 4 l) (drop-drop 4 k s)
 
 pub number_lt : (w : ℕ) {s : List ℕ} → Bytes s → number w s < 256 ^ w
 unfolding number

@@ -31,7 +31,7 @@ number_take zero s = refl
 number_take (suc w) [] = refl
 number_take (suc w) (b ∷ s) = ap (λ (n : ℕ). b + 256 * n) (number_take w s)
 
-four : (a b c d a' b' c' d' : ℕ) → a ≡ a' → b ≡ b' → c ≡ c' → d ≡ d' → ◌≡◌ {A = List ℕ} (a ∷ b ∷ c ∷ d ∷ []) (a' ∷ b' ∷ c' ∷ d' ∷ [])
+pub four : (a b c d a' b' c' d' : ℕ) → a ≡ a' → b ≡ b' → c ≡ c' → d ≡ d' → ◌≡◌ {A = List ℕ} (a ∷ b ∷ c ∷ d ∷ []) (a' ∷ b' ∷ c' ∷ d' ∷ [])
 four a b c d a' b' c' d' p q r s = cc
 
 pub to_four : (x : ℕ) → to_le_bytes w32 x ≡ bytes 4 x

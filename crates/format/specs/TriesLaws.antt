@@ -1,6 +1,6 @@
 -- A test of a list's elements in turn refuses as the first that is refused, and how a loop comes to that. Assumes nothing.
 use Prim.Native.Nat.{ℕ, suc, ◌+◌, ◌≤◌, ◌<◌}
-use Rattle.std.specs.Prelude.{◌≡◌, List, [], ◌∷◌, length, get_or, drop, Result, Ok, Err, MatchResult}
+use Rattle.std.specs.Prelude.{◌≡◌, List, [], ◌∷◌, length, get_or, drop, Result, Ok, Err, IsErrAnd, MatchResult}
 use Rattle.std.proofs.Math.Path.{refl, sym, ap}
 use Rattle.std.proofs.Common.{◌∙◌, subst, add-one, arith, drop_of_length-le}
 use Rattle.std.proofs.Math.Seq.{drop-cons}
@@ -23,6 +23,14 @@ refused OutOfRange z = omega arith
 refused Space z = omega arith
 refused NoMark z = omega arith
 refused Record z = omega arith
+
+-- what `?` hands on, and its number
+pub handed : {A : Type 0} (r : Result A Refusal) (e : Refusal) → IsErrAnd r (λ (y : Refusal). y ≡ e) → r ≡ Err e
+handed (Ok x) e h = absurd h
+handed (Err y) e h = ap (λ (z : Refusal). Err z) h
+
+pub handed_on : {A : Type 0} (r : Result A Refusal) (e : Refusal) → IsErrAnd r (λ (y : Refusal). y ≡ e) → fault r ≡ number_of e
+handed_on r e h = ap fault (handed r e h)
 
 -- a step that refuses ends it, and where it does not the next one decides
 pub fault_first : {a : ℕ} (e : Refusal) (b : ℕ) → number_of e ≡ a → number_of e ≡ (a then b)

@@ -1,7 +1,7 @@
-// What refuses a single number, by document 01's table. A u32 becomes a usize by `as`: there is no `From` for the two.
+// What refuses a single number, by document 01's table. A u32 becomes a usize by `as`: there is no `From` for the two, and `try_from` would have a refusal that cannot come.
 ghost use Rattle.std.specs.Prelude.{◌≡◌};
 ghost use Rattle.std.specs.Float.{binary64};
-ghost use Rattle.std.specs.Float.Ieee.{is_nan, nan_bits, of_bits, to_bits};
+ghost use Rattle.std.specs.Float.Ieee.{is_nan, of_bits};
 ghost use Rattle.binary64.specs.Number.{pick};
 ghost use Rattle.refusal.specs.Refusal.{fault};
 ghost use Rattle.format.specs.Setting.{number_read};
@@ -10,6 +10,9 @@ ghost use Rattle.format.specs.Tries.{Tries};
 ghost use Rattle.std.specs.Fn.{FnReturnsAt};
 
 use refusal::Refusal;
+use std::num::f64_from_bits_with_nan;
+// The pattern of a number; of a NaN, that of the quiet one.
+pub use std::num::f64_to_bits_with_nan as pattern;
 
 pub fn vertex_fault(x: u32, n: usize) -> Result<(), Refusal>
     ensures { fault result ≡ vertex_fault n x }
@@ -70,7 +73,6 @@ pub fn coordinate_fault(x: f64) -> Result<(), Refusal>
 }
 
 // Finite, as a tolerance has to be.
-#[tactic(auto, using(crate::proofs::Laws::finite_is))]
 pub fn finite_fault(x: f64) -> Result<(), Refusal>
     ensures { fault result ≡ real_fault finite x }
 {
@@ -78,38 +80,21 @@ pub fn finite_fault(x: f64) -> Result<(), Refusal>
 }
 
 // Finite and above 0, as a step has to be.
-#[tactic(auto, using(crate::proofs::Laws::finite_is), unfolding(crate::specs::Refusal::positive))]
 pub fn step_fault(x: f64) -> Result<(), Refusal>
     ensures { fault result ≡ real_fault positive x }
 {
     real_fault(x, x.is_finite() && 0.0 < x)
 }
 
-// Whether a pattern is a NaN's: its exponent field is all ones and its digits are not 0.
-fn nan_pattern(bits: u64) -> bool
-    ensures { result ≡ nan_bits binary64 bits }
-{
-    0x7ff0000000000000 < bits % 0x8000000000000000
-}
-
-// The number of a pattern.
+// The number of a pattern: a NaN's is refused.
 pub fn number_of(bits: u64) -> Result<f64, Refusal>
     ensures { result ≡ number_read bits }
 {
-    if nan_pattern(bits) {
+    let x = f64_from_bits_with_nan(bits);
+    if x.is_nan() {
         return Err(Refusal::NotANumber);
     }
-    Ok(f64::from_bits(bits))
-}
-
-// The pattern of a number; of a NaN, that of the quiet one.
-pub fn pattern(x: f64) -> u64
-    ensures { result ≡ to_bits binary64 x }
-{
-    if x.is_nan() {
-        return 0x7ff8000000000000;
-    }
-    f64::to_bits(x)
+    Ok(x)
 }
 
 // A coordinate by its pattern.

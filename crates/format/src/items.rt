@@ -10,90 +10,105 @@ use crate::{Setting, Settings};
 use refusal::Refusal;
 
 // A kind and a value, as section 5 has them. The kind is a byte of the file; what it says is an enum from here on.
-#[tactic(auto, unfolding(crate::specs::Sheet::setting_of))]
-pub fn setting_of(kind: u8, value: u64) -> Result<Setting, Refusal>
-    ensures { result ≡ read_of (setting_of kind value) }
-{
-    match kind {
-        1 => Ok(Setting::Limit(value)),
-        2 => Ok(Setting::Tolerance(number_of(value)?)),
-        3 => Ok(Setting::Step(number_of(value)?)),
-        4 => Ok(Setting::StartX(number_of(value)?)),
-        5 => Ok(Setting::StartY(number_of(value)?)),
-        6 => Ok(Setting::Room(value)),
-        _ => Err(Refusal::Setting),
+impl TryFrom<(u8, u64)> for Setting {
+    type Error = Refusal;
+
+    ghost try_from_gives = { λ item r. r ≡ read_of (setting_of item.0 item.1) };
+
+    #[tactic(auto, unfolding(crate::specs::Sheet::setting_of))]
+    fn try_from(item: (u8, u64)) -> Result<Setting, Refusal> {
+        let (kind, value) = item;
+        match kind {
+            1 => Ok(Setting::Limit(value)),
+            2 => Ok(Setting::Tolerance(number_of(value)?)),
+            3 => Ok(Setting::Step(number_of(value)?)),
+            4 => Ok(Setting::StartX(number_of(value)?)),
+            5 => Ok(Setting::StartY(number_of(value)?)),
+            6 => Ok(Setting::Room(value)),
+            _ => Err(Refusal::Setting),
+        }
     }
 }
 
-// The kind byte of a setting, a number of the file as `setting_of` reads it.
-#[tactic(auto, unfolding(crate::specs::Sheet::kind_of))]
-pub fn kind(s: Setting) -> u8
-    ensures { result ≡ kind_of (said s) }
-{
-    match s {
-        Setting::Limit(_) => 1,
-        Setting::Tolerance(_) => 2,
-        Setting::Step(_) => 3,
-        Setting::StartX(_) => 4,
-        Setting::StartY(_) => 5,
-        Setting::Room(_) => 6,
+impl Setting {
+    // The kind byte, by which `try_from` reads it.
+    #[tactic(auto, unfolding(crate::specs::Sheet::kind_of))]
+    pub fn kind(self) -> u8
+        ensures { result ≡ kind_of (said self) }
+    {
+        match self {
+            Setting::Limit(_) => 1,
+            Setting::Tolerance(_) => 2,
+            Setting::Step(_) => 3,
+            Setting::StartX(_) => 4,
+            Setting::StartY(_) => 5,
+            Setting::Room(_) => 6,
+        }
+    }
+
+    // The value, as section 5 has it.
+    #[tactic(auto, unfolding(crate::specs::Sheet::value_of))]
+    pub fn value(self) -> u64
+        ensures { result ≡ value_of (said self) }
+    {
+        match self {
+            Setting::Limit(v) | Setting::Room(v) => v,
+            Setting::Tolerance(x) | Setting::Step(x) | Setting::StartX(x) | Setting::StartY(x) =>
+                pattern(x),
+        }
+    }
+
+    #[tactic(auto, unfolding(crate::specs::Refusal::setting_fault))]
+    pub fn fault(self) -> Result<(), Refusal>
+        ensures { fault result ≡ setting_fault (said self) }
+    {
+        match self {
+            Setting::Limit(v) => whole_fault(0, crate::MAX_LIMIT, v),
+            Setting::Tolerance(x) => finite_fault(x),
+            Setting::Step(x) => step_fault(x),
+            Setting::StartX(x) | Setting::StartY(x) => coordinate_fault(x),
+            Setting::Room(v) => whole_fault(1, crate::MAX_ROOM, v),
+        }
     }
 }
 
-// Its value.
-#[tactic(auto, unfolding(crate::specs::Sheet::value_of))]
-pub fn value(s: Setting) -> u64
-    ensures { result ≡ value_of (said s) }
-{
-    match s {
-        Setting::Limit(v) | Setting::Room(v) => v,
-        Setting::Tolerance(x) | Setting::Step(x) | Setting::StartX(x) | Setting::StartY(x) =>
-            pattern(x),
+impl Settings {
+    // The settings with one more.
+    #[tactic(auto, unfolding(crate::specs::Sheet::adding))]
+    pub fn with(self, one: Setting) -> Settings
+        ensures { result ≡ adding self (said one) }
+    {
+        match one {
+            Setting::Limit(v) => Settings {
+                limit: Some(v),
+                ..self
+            },
+            Setting::Tolerance(x) => Settings {
+                tolerance: Some(x),
+                ..self
+            },
+            Setting::Step(x) => Settings {
+                step: Some(x),
+                ..self
+            },
+            Setting::StartX(x) => Settings { x: Some(x), ..self },
+            Setting::StartY(x) => Settings { y: Some(x), ..self },
+            Setting::Room(v) => Settings {
+                room: Some(v),
+                ..self
+            },
+        }
     }
-}
 
-#[tactic(auto, unfolding(crate::specs::Refusal::setting_fault))]
-pub fn setting_fault(s: Setting) -> Result<(), Refusal>
-    ensures { fault result ≡ setting_fault (said s) }
-{
-    match s {
-        Setting::Limit(v) => whole_fault(0, crate::MAX_LIMIT, v),
-        Setting::Tolerance(x) => finite_fault(x),
-        Setting::Step(x) => step_fault(x),
-        Setting::StartX(x) | Setting::StartY(x) => coordinate_fault(x),
-        Setting::Room(v) => whole_fault(1, crate::MAX_ROOM, v),
-    }
-}
-
-// The settings with one more.
-#[tactic(auto, unfolding(crate::specs::Sheet::adding))]
-pub fn add(s: Settings, one: Setting) -> Settings
-    ensures { result ≡ adding s (said one) }
-{
-    match one {
-        Setting::Limit(v) => Settings {
-            limit: Some(v),
-            ..s
-        },
-        Setting::Tolerance(x) => Settings {
-            tolerance: Some(x),
-            ..s
-        },
-        Setting::Step(x) => Settings { step: Some(x), ..s },
-        Setting::StartX(x) => Settings { x: Some(x), ..s },
-        Setting::StartY(x) => Settings { y: Some(x), ..s },
-        Setting::Room(v) => Settings { room: Some(v), ..s },
-    }
-}
-
-// A step, a room or half a start is missing.
-#[tactic(auto, unfolding(crate::specs::Refusal::missing))]
-pub fn missing_fault(s: Settings) -> Result<(), Refusal>
-    ensures { fault result ≡ missing s }
-{
-    if s.step.is_some() && s.room.is_some() && s.x.is_some() == s.y.is_some() {
-        Ok(())
-    } else {
-        Err(Refusal::Setting)
+    // A step, a room or half a start is missing.
+    #[tactic(auto, unfolding(crate::specs::Refusal::missing))]
+    pub fn missing_fault(self) -> Result<(), Refusal>
+        ensures { fault result ≡ missing self }
+    {
+        if self.step.is_some() && self.room.is_some() && self.x.is_some() == self.y.is_some() {
+            Ok(())
+        } else {
+            Err(Refusal::Setting)
+        }
     }
 }

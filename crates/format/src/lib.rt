@@ -1,11 +1,13 @@
 // The archive's sheet format (document 01, section Sheet): what a sheet's settings are, and its numbers one by one.
 #![tactic(auto)]
 
+ghost use Rattle.std.specs.Prelude.{◌≡◌, ◌/◌, length};
+
 pub mod bytes;
 pub mod faults;
 pub mod items;
 
-// Kinds of settings, tags and −1 are numbers of the file: they stay numbers, and each is tested as such.
+// Tags and −1 are numbers of the file: they stay numbers, and each is tested as such. A setting's kind is a number only until it is read.
 
 pub const MAX_VERTICES: usize = 4096;
 
@@ -52,4 +54,19 @@ pub struct Content<'a> {
     pub neighbours: &'a [u32],
     pub tags: &'a [u8],
     pub settings: Settings,
+}
+
+impl<'a> Content<'a> {
+    // How many vertices and triangles there are.
+    pub fn vertex_count(&self) -> usize
+        ensures { result ≡ length self.now.vertices.now / 2 }
+    {
+        self.vertices.len() / 2
+    }
+
+    pub fn triangle_count(&self) -> usize
+        ensures { result ≡ length self.now.triangles.now / 3 }
+    {
+        self.triangles.len() / 3
+    }
 }

@@ -14,15 +14,7 @@ ghost use Rattle.image.specs.Exits.{moved_run};
 ghost use Rattle.work.specs.Ready.{Comes};
 
 use refusal::Refusal;
-use work::{Kept, Laid, Plan, Run, Stand};
-
-// The greatest place that a run of t triangles can reach. Two counts, and no method of Plan: those stand in crate work, which knows no calls.
-pub fn farthest(t: usize, limit: usize) -> usize
-    requires { (t ≤ 8192) × (limit ≤ 100000) }
-    ensures { result ≡ Space.farthest t limit }
-{
-    limit + 1 + Run::FACTOR * t
-}
+use work::{Counted, Kept, Laid, Plan, Run, Stand};
 
 // Whether the words are −1's or below t: a word is 32 bits that C lends, so none is a number.
 fn all_none_or_below(words: &[u32], t: u32) -> bool
@@ -35,55 +27,59 @@ fn all_none_or_below(words: &[u32], t: u32) -> bool
     )
 }
 
-// A plan whose counts are in their ranges.
+// A plan whose counts are all in their ranges: limit and room, too.
 #[derive(Clone, Copy)]
-struct Counted<'a> {
-    plan: &'a Plan,
-    ghost counts: { (plan.now.n ≤ 4096) × (plan.now.t ≤ 8192) × (plan.now.limit ≤ 100000) × (plan.now.room ≤ 1000000) },
+struct Ranged {
+    counted: Counted,
+    ghost limit_most: { counted.plan.limit ≤ 100000 },
+    ghost room_most: { counted.plan.room ≤ 1000000 },
 }
 
-impl<'a> Counted<'a> {
-    // The plan, where its counts are in their ranges. A named function and no `TryFrom`: it has one caller, and answers the refusal. `as usize`: a u64 is no `Into<usize>`.
-    fn of(plan: &'a Plan) -> Result<Counted<'a>, Refusal>
-        ensures refused { fault result ≡ Calls.counts_fault plan.now }
-        ensures same { IfOk result (λ c. c.plan.now ≡ plan.now) }
-    {
-        let good = (plan.n <= format::MAX_VERTICES)
-            & ((plan.t <= format::MAX_TRIANGLES)
-                & ((plan.limit <= format::MAX_LIMIT as usize)
-                    & ((1 <= plan.room) & (plan.room <= format::MAX_ROOM as usize))));
+// The plan, where its counts are in their ranges. `as usize`: a u64 is no `Into<usize>`.
+impl TryFrom<Plan> for Ranged {
+    type Error = Refusal;
+
+    ghost try_from_gives = { λ plan r. (fault r ≡ Calls.counts_fault plan) × IfOk r (λ c. c.counted.plan ≡ plan) };
+
+    fn try_from(plan: Plan) -> Result<Ranged, Refusal> {
+        let counted = Counted::of(plan).ok_or(Refusal::Record)?;
+        let good = (plan.limit <= format::MAX_LIMIT as usize)
+            && (1 <= plan.room)
+            && (plan.room <= format::MAX_ROOM as usize);
         if good {
-            Ok(Counted { plan })
+            Ok(Ranged { counted })
         } else {
             Err(Refusal::Record)
         }
     }
+}
 
+impl Ranged {
     // A buffer of these lengths may be too short.
     fn space_fault(&self, floats: usize, words: usize, path: usize) -> Result<(), Refusal>
-        ensures { fault result ≡ Calls.short_fault self.now.plan.now floats words path }
+        ensures { fault result ≡ Calls.short_fault self.now.counted.plan floats words path }
     {
-        let needed = self.plan.space();
+        let needed = self.counted.space();
         let short = needed.lacks(floats, words, path);
         if short { Err(Refusal::Space) } else { Ok(()) }
     }
 
     // How many norms there may be: one more than the limit where the field has its end.
     fn norms_most(&self, end: usize) -> usize
-        ensures { result ≡ self.now.plan.now.limit + pick (eqb end 0) 0 1 }
+        ensures { result ≡ self.now.counted.plan.limit + pick (eqb end 0) 0 1 }
     {
         if end == 0 {
-            self.plan.limit
+            self.counted.plan.limit
         } else {
-            self.plan.limit + 1
+            self.counted.plan.limit + 1
         }
     }
 
     // The counts of a place.
     fn stand_sound(&self, s: Stand) -> bool
-        ensures { result ≡ Calls.stand_sound self.now.plan.now s }
+        ensures { result ≡ Calls.stand_sound self.now.counted.plan s }
     {
-        let p = self.plan;
+        let p = self.counted.plan;
         let most = Run::FACTOR * p.t;
         let w = s.walk;
         let norms = self.norms_most(s.end);
@@ -91,38 +87,36 @@ impl<'a> Counted<'a> {
         let walking = (w.points == 0) | ((w.triangle < p.t) & left);
         let path = (w.points <= p.room) & ((s.crossings <= most) & walking);
         let within = (w.triangle == 0) | (w.triangle < p.t);
-        let ends = (s.end <= 3) & ((w.end <= 9) & ((w.edge <= 3) & (within & path)));
-        let far = farthest(p.t, p.limit);
+        let ends = (s.end <= 3) & ((w.end <= 9) & ((w.edge <= pde::NO_EDGE) & (within & path)));
+        let far = p.farthest();
         (s.place <= far) & ((1 <= s.norms) & ((s.norms <= norms) & ends))
     }
 
     // The counts of a mark.
     #[tactic(auto, unfolding(image::specs::Calls::mark_sound))]
     fn mark_sound(&self, mark: Option<Kept>) -> bool
-        ensures { result ≡ Calls.mark_sound self.now.plan.now mark }
+        ensures { result ≡ Calls.mark_sound self.now.counted.plan mark }
     {
-        let p = self.plan;
-        let far = farthest(p.t, p.limit);
+        let p = self.counted.plan;
+        let far = p.farthest();
         let norms = p.limit + 1;
         mark.is_none_or(|k| (k.place <= far) & ((1 <= k.norms) & (k.norms <= norms)))
     }
 
-    // The indices in the words. The same places as in `Plan::matrix`, which asks that the words are sound; here that is tested.
-    // The casts keep n and t, which are below 2^32 as the words are.
+    // The indices in the words. The casts keep n and t, which are below 2^32 as the words are. `3 * t`, where the neighbours start, is in no field of `places`.
     fn words_sound(&self, words: &[u32]) -> bool
-        requires { Space.word_space self.now.plan.now.n self.now.plan.now.t ≤ length words.now }
-        ensures { result ≡ Calls.words_sound self.now.plan.now words.now }
+        requires { Space.word_space self.now.counted.plan.n self.now.counted.plan.t ≤ length words.now }
+        ensures { result ≡ Calls.words_sound self.now.counted.plan words.now }
     {
-        let n = self.plan.n;
-        let t = self.plan.t;
-        let starts_at = n + 6 * t;
-        let columns_at = starts_at + n + 1;
-        let count = 9 * t + n;
-        let corners = sparse::all_below(&words[..3 * t], n as u32);
-        let neighbours = all_none_or_below(&words[3 * t..6 * t], t as u32);
-        let starts = sparse::starts_rise(&words[starts_at..columns_at], count);
-        let columns = sparse::all_below(&words[columns_at..columns_at + count], n as u32);
-        corners & (neighbours & (starts & columns))
+        let n = self.counted.plan.n as u32;
+        let t = self.counted.plan.t;
+        let (starts, columns) = self.counted.row_words(words);
+        let corners = sparse::all_below(&words[..3 * t], n);
+        let tags = self.counted.places().tags;
+        let neighbours = all_none_or_below(&words[3 * t..tags], t as u32);
+        let rising = sparse::starts_rise(starts, self.counted.entries());
+        let within = sparse::all_below(columns, n);
+        corners & (neighbours & (rising & within))
     }
 }
 
@@ -130,7 +124,7 @@ impl<'a> Counted<'a> {
 pub fn held_fault(run: Run, floats: &[f64], words: &[u32], path: &[f64]) -> Result<(), Refusal>
     ensures { fault result ≡ Calls.held_fault run (buffers floats.now words.now path.now) }
 {
-    let p = Counted::of(&run.plan)?;
+    let p: Ranged = run.plan.try_into()?;
     p.space_fault(floats.len(), words.len(), path.len())?;
     let sound = p.stand_sound(run.stand) & (p.mark_sound(run.mark) & p.words_sound(words));
     if sound { Ok(()) } else { Err(Refusal::Record) }
@@ -153,7 +147,7 @@ pub fn seek(run: Run, target: usize, floats: &mut [f64], words: &[u32], path: &m
     ensures { Comes (sought_at run (buffers floats.old words.now path.old) target) result floats.new path.new }
 {
     let laid = Laid {
-        plan: run.plan,
+        counted: Counted { plan: run.plan },
         words,
     };
     seek::seek(floats, path, &laid, run.stand, run.mark, target)

@@ -1,14 +1,15 @@
--- Laws of the gradients on triangles one after another: one triangle more, how long the list is, and the gradient on one triangle. Assumes nothing.
-use Rattle.std.specs.Prelude.{◌≡◌, length, get_or, Float}
+-- Laws of the gradients on triangles one after another: one triangle more, how long the list is, the gradient on one triangle, and values beyond those of the vertices. Assumes nothing.
+use Rattle.std.specs.Prelude.{◌≡◌, length, get_or, take, Float}
 use Rattle.std.proofs.Math.Path.{refl}
 use Rattle.std.proofs.Common.{ap, arith}
 use mathlib.Core.List.{List, [], ◌∷◌, ◌++◌}
 use Prim.Native.Nat.{ℕ, zero, suc, ◌+◌, ◌*◌, ◌<◌}
 use Rattle.std.specs.Float.{nan}
 use Rattle.plane.specs.Plane.{point}
+use Rattle.std.proofs.lemmas.List.{get_or-take}
 use Rattle.mesh.specs.Mesh.{corner}
 use Rattle.mesh.specs.Pair.{pair}
-use Rattle.gradient.specs.Gradient.{gradient_of, gradients}
+use Rattle.gradient.specs.Gradient.{gradient_of, gradient_on, gradients}
 
 two_on : (x y : Float) (l : List Float) (i j : ℕ) → i ≡ suc (suc j) → get_or (x ∷ y ∷ l) i nan ≡ get_or l j nan
 two_on x y l i j e = ap (λ (k : ℕ). get_or (x ∷ y ∷ l) k nan) e
@@ -51,3 +52,21 @@ module _ (flat : Float) (vs us : List Float) where
       let j = three_on a b d ts (3 * suc t + 1) (3 * t + 1) (omega arith) in
       let k = three_on a b d ts (3 * suc t + 2) (3 * t + 2) (omega arith) in
       cc (gradients_at_lem n ts t (omega arith) (omega arith))
+
+-- Where a list has more values than there are vertices, the first of them, one for each vertex (`Field::over`), give its gradients.
+module _ (flat : Float) (vs us : List Float) (n : ℕ) where
+  gradient_of_first : (i j k : ℕ) → i < n → j < n → k < n → gradient_of flat vs (take n us) i j k ≡ gradient_of flat vs us i j k
+  unfolding gradient_of
+  gradient_of_first i j k hi hj hk = rw (get_or-take n us i nan hi, get_or-take n us j nan hj, get_or-take n us k nan hk)
+
+  pub gradient_on_first : (ts : List ℕ) (t : ℕ) → ((p : ℕ) → p < length ts → get_or ts p 0 < n) → 3 * t + 2 < length ts → gradient_on flat vs (take n us) ts t ≡ gradient_on flat vs us ts t
+  unfolding gradient_on corner
+  gradient_on_first ts t h l = gradient_of_first _ _ _ (h (3 * t + 0) (omega arith)) (h (3 * t + 1) (omega arith)) (h (3 * t + 2) l)
+
+  pub gradients_first : (ts : List ℕ) → ((p : ℕ) → p < length ts → get_or ts p 0 < n) → gradients flat vs (take n us) ts ≡ gradients flat vs us ts
+  unfolding gradients
+  gradients_first [] h = refl
+  gradients_first (i ∷ []) h = refl
+  gradients_first (i ∷ j ∷ []) h = refl
+  gradients_first (i ∷ j ∷ k ∷ ts) h =
+      rw (gradient_of_first i j k (h 0 (omega arith)) (h 1 (omega arith)) (h 2 (omega arith)), gradients_first ts (λ p l. h (suc (suc (suc p))) (omega arith)))

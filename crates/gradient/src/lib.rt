@@ -1,14 +1,15 @@
-// The gradient of the field on each triangle. Mesh and values stand apart: there may be more values than vertices, and `Field`, which is both, is of `pde`.
+// The gradient of a field on each triangle.
 #![tactic(auto)]
 
-ghost use Rattle.std.specs.Prelude.{◌≡◌, ◌*◌, ◌≤◌, ◌<◌, length};
+ghost use Rattle.std.specs.Prelude.{◌≡◌, ◌*◌, ◌<◌, length};
 ghost use Rattle.gradient.specs.Gradient.{triangle_gradient, gradient_on, gradients};
 ghost use Rattle.mesh.specs.Mesh.{triangle_count};
 
-use mesh::{Mesh, Slope};
+use mesh::{Field, Slope};
 use plane::Point;
 
 // The gradient of the field that is ui, uj, uk at a triangle's corners; (0, 0) where twice its area is below `flat` in magnitude.
+// Corners and values are parameters of their own: the definition names each number, and an array would be indexed in each clause.
 pub fn triangle_gradient(
     flat: f64,
     vi: Point,
@@ -33,27 +34,22 @@ pub fn triangle_gradient(
     }
 }
 
-// The gradient on triangle t of the field u.
-pub fn gradient_in(mesh: &Mesh, u: &[f64], flat: f64, t: usize) -> Point
-    requires { (length mesh.now.tags.now ≤ length u.now) × (t < triangle_count mesh.now.triangles.now) }
-    ensures { result ≡ gradient_on flat mesh.now.vertices.now u.now mesh.now.triangles.now t }
+// The gradient on triangle t.
+pub fn gradient_in(field: &Field, flat: f64, t: usize) -> Point
+    requires { t < triangle_count field.now.mesh.triangles.now }
+    ensures { result ≡ gradient_on flat field.now.mesh.vertices.now field.now.values.now field.now.mesh.triangles.now t }
 {
-    let i = mesh.corner(t, 0);
-    let j = mesh.corner(t, 1);
-    let k = mesh.corner(t, 2);
-    let vi = mesh.vertex(i);
-    let vj = mesh.vertex(j);
-    let vk = mesh.vertex(k);
-    triangle_gradient(flat, vi, vj, vk, u[i], u[j], u[k])
+    let ([vi, vj, vk], [ui, uj, uk]) = field.on(t);
+    triangle_gradient(flat, vi, vj, vk, ui, uj, uk)
 }
 
 // The gradients on all triangles, by their numbers: of a slice that is written through its chunks only the length is known.
-pub fn compute_gradient_field(mesh: &Mesh, u: &[f64], flat: f64, out: &mut [f64])
-    requires { (length mesh.now.tags.now ≤ length u.now) × (length out.old ≡ 2 * triangle_count mesh.now.triangles.now) }
-    ensures { out.new ≡ gradients flat mesh.now.vertices.now u.now mesh.now.triangles.now }
+pub fn compute_gradient_field(field: &Field, flat: f64, out: &mut [f64])
+    requires { length out.old ≡ 2 * triangle_count field.now.mesh.triangles.now }
+    ensures { out.new ≡ gradients flat field.now.mesh.vertices.now field.now.values.now field.now.mesh.triangles.now }
 {
-    for t in 0..mesh.triangle_count() {
-        let g = gradient_in(mesh, u, flat, t);
+    for t in 0..field.mesh.triangle_count() {
+        let g = gradient_in(field, flat, t);
         out[2 * t] = g.x;
         out[2 * t + 1] = g.y;
     }

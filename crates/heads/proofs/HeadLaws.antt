@@ -21,23 +21,13 @@ use Rattle.format.specs.Theorems.{bytes-parse}
 use Rattle.sheet.specs.declared.Header.{Header}
 use Rattle.sheet.specs.Answer.{Accepted, checked_of, header_of}
 use Rattle.sheet.specs.Write.{write_refusal}
-use Rattle.heads.specs.Heads.{settings_fit, given_by, settings_from, presence, number_put, wholes_settings, reals_settings, head_numbers, check_fault, head_checked, wholes_checked, reals_checked, Checks, content_from, WritesFrom, HasHead}
+use Rattle.records.proofs.NumberLaws.{eight}
+use Rattle.records.specs.Numbers.{Listed, listed, given_by}
+use Rattle.heads.specs.Heads.{settings_fit, settings_from, presence, number_put, settings_put, head_numbers, check_fault, head_checked, settings_checked, Checks, content_from, WritesFrom, HasHead}
 
 -- ---- lists that have the places
 
--- what holds of every list that begins with eight elements holds of every list that is as long
-eight : (P : List ℕ → Type 0) → ((n0 n1 n2 n3 n4 n5 n6 n7 : ℕ) (rest : List ℕ) → P (n0 ∷ n1 ∷ n2 ∷ n3 ∷ n4 ∷ n5 ∷ n6 ∷ n7 ∷ rest)) → (l : List ℕ) → 8 ≤ length l → P l
-eight P f [] h = absurd (omega arith)
-eight P f (n0 ∷ []) h = absurd (omega arith)
-eight P f (n0 ∷ n1 ∷ []) h = absurd (omega arith)
-eight P f (n0 ∷ n1 ∷ n2 ∷ []) h = absurd (omega arith)
-eight P f (n0 ∷ n1 ∷ n2 ∷ n3 ∷ []) h = absurd (omega arith)
-eight P f (n0 ∷ n1 ∷ n2 ∷ n3 ∷ n4 ∷ []) h = absurd (omega arith)
-eight P f (n0 ∷ n1 ∷ n2 ∷ n3 ∷ n4 ∷ n5 ∷ []) h = absurd (omega arith)
-eight P f (n0 ∷ n1 ∷ n2 ∷ n3 ∷ n4 ∷ n5 ∷ n6 ∷ []) h = absurd (omega arith)
-eight P f (n0 ∷ n1 ∷ n2 ∷ n3 ∷ n4 ∷ n5 ∷ n6 ∷ n7 ∷ rest) h = f n0 n1 n2 n3 n4 n5 n6 n7 rest
-
--- with six
+-- what holds of every list that begins with six elements holds of every list that is as long; with eight by `eight` of records
 six : (P : List ℕ → Type 0) → ((n0 n1 n2 n3 n4 n5 : ℕ) (rest : List ℕ) → P (n0 ∷ n1 ∷ n2 ∷ n3 ∷ n4 ∷ n5 ∷ rest)) → (l : List ℕ) → 6 ≤ length l → P l
 six P f [] h = absurd (omega arith)
 six P f (n0 ∷ []) h = absurd (omega arith)
@@ -72,32 +62,26 @@ put_is (Some v) i l d = refl
 
 -- ---- settings
 
-wholes_are : (s : Settings) (n0 n1 n2 n3 n4 n5 n6 n7 : ℕ) (l : List ℕ)
-    → wholes_settings s (n0 ∷ n1 ∷ n2 ∷ n3 ∷ n4 ∷ n5 ∷ n6 ∷ n7 ∷ l)
-    ≡ presence s.limit ∷ number_or s.limit n1 ∷ presence s.tolerance ∷ presence s.step ∷ presence s.x ∷ presence s.y ∷ presence s.room ∷ number_or s.room n7 ∷ l
-unfolding wholes_settings
-wholes_are s n0 n1 n2 n3 n4 n5 n6 n7 l =
-    rw (put_is s.limit 1 (presence s.limit ∷ n1 ∷ n2 ∷ n3 ∷ n4 ∷ n5 ∷ n6 ∷ n7 ∷ l) 0)
-    (put_is s.room 7 (presence s.limit ∷ number_or s.limit n1 ∷ presence s.tolerance ∷ presence s.step ∷ presence s.x ∷ presence s.y ∷ presence s.room ∷ n7 ∷ l) 0)
-
-reals_are : (s : Settings) (x0 x1 x2 x3 : Float) (l : List Float)
-    → reals_settings s (x0 ∷ x1 ∷ x2 ∷ x3 ∷ l) ≡ number_or s.tolerance x0 ∷ number_or s.step x1 ∷ number_or s.x x2 ∷ number_or s.y x3 ∷ l
-unfolding reals_settings
-reals_are s x0 x1 x2 x3 l =
-    rw (put_is s.tolerance 0 (x0 ∷ x1 ∷ x2 ∷ x3 ∷ l) x0, put_is s.step 1 (number_or s.tolerance x0 ∷ x1 ∷ x2 ∷ x3 ∷ l) x1, put_is s.x 2 (number_or s.tolerance x0 ∷ number_or s.step x1 ∷ x2 ∷ x3 ∷ l) x2)
-    (put_is s.y 3 (number_or s.tolerance x0 ∷ number_or s.step x1 ∷ number_or s.x x2 ∷ x3 ∷ l) x3)
+-- the settings' numbers in front of what is behind them
+are : (s : Settings) (n0 n1 n2 n3 n4 n5 n6 n7 : ℕ) (ns : List ℕ) (x0 x1 x2 x3 : Float) (xs : List Float)
+    → settings_put s (listed (n0 ∷ n1 ∷ n2 ∷ n3 ∷ n4 ∷ n5 ∷ n6 ∷ n7 ∷ ns) (x0 ∷ x1 ∷ x2 ∷ x3 ∷ xs))
+    ≡ listed (presence s.limit ∷ number_or s.limit n1 ∷ presence s.tolerance ∷ presence s.step ∷ presence s.x ∷ presence s.y ∷ presence s.room ∷ number_or s.room n7 ∷ ns) (number_or s.tolerance x0 ∷ number_or s.step x1 ∷ number_or s.x x2 ∷ number_or s.y x3 ∷ xs)
+unfolding settings_put
+are s n0 n1 n2 n3 n4 n5 n6 n7 ns x0 x1 x2 x3 xs =
+    rw (put_is s.limit 1 (presence s.limit ∷ n1 ∷ n2 ∷ n3 ∷ n4 ∷ n5 ∷ n6 ∷ n7 ∷ ns) 0, put_is s.tolerance 0 (x0 ∷ x1 ∷ x2 ∷ x3 ∷ xs) x0, put_is s.step 1 (number_or s.tolerance x0 ∷ x1 ∷ x2 ∷ x3 ∷ xs) x1, put_is s.x 2 (number_or s.tolerance x0 ∷ number_or s.step x1 ∷ x2 ∷ x3 ∷ xs) x2, put_is s.y 3 (number_or s.tolerance x0 ∷ number_or s.step x1 ∷ number_or s.x x2 ∷ x3 ∷ xs) x3)
+    (rw (put_is s.room 7 (presence s.limit ∷ number_or s.limit n1 ∷ presence s.tolerance ∷ presence s.step ∷ presence s.x ∷ presence s.y ∷ presence s.room ∷ n7 ∷ ns) 0) refl)
 
 front : (s : Settings) (n0 n1 n2 n3 n4 n5 n6 n7 : ℕ) (ns : List ℕ) (x0 x1 x2 x3 : Float) (xs : List Float)
-    → settings_from (wholes_settings s (n0 ∷ n1 ∷ n2 ∷ n3 ∷ n4 ∷ n5 ∷ n6 ∷ n7 ∷ ns)) (reals_settings s (x0 ∷ x1 ∷ x2 ∷ x3 ∷ xs)) ≡ s
+    → settings_from (settings_put s (listed (n0 ∷ n1 ∷ n2 ∷ n3 ∷ n4 ∷ n5 ∷ n6 ∷ n7 ∷ ns) (x0 ∷ x1 ∷ x2 ∷ x3 ∷ xs))) ≡ s
 unfolding settings_from
 front s n0 n1 n2 n3 n4 n5 n6 n7 ns x0 x1 x2 x3 xs =
-    rw (wholes_are s n0 n1 n2 n3 n4 n5 n6 n7 ns, reals_are s x0 x1 x2 x3 xs, given_back s.limit n1, given_back s.tolerance x0, given_back s.step x1, given_back s.x x2, given_back s.y x3, given_back s.room n7)
+    rw (are s n0 n1 n2 n3 n4 n5 n6 n7 ns x0 x1 x2 x3 xs, given_back s.limit n1, given_back s.tolerance x0, given_back s.step x1, given_back s.x x2, given_back s.y x3, given_back s.room n7)
 
 -- what is put is read as it was
-pub settings_back : (s : Settings) (ns : List ℕ) (xs : List Float) → settings_fit (length ns) (length xs) ≡ true → settings_from (wholes_settings s ns) (reals_settings s xs) ≡ s
-settings_back s ns xs fit =
-    let places = both (leb 8 (length ns)) (leb 4 (length xs)) fit in
-    eight (λ ns. settings_from (wholes_settings s ns) (reals_settings s xs) ≡ s) (λ n0 n1 n2 n3 n4 n5 n6 n7 ns. four (λ xs. settings_from (wholes_settings s (n0 ∷ n1 ∷ n2 ∷ n3 ∷ n4 ∷ n5 ∷ n6 ∷ n7 ∷ ns)) (reals_settings s xs) ≡ s) (λ x0 x1 x2 x3 xs. front s n0 n1 n2 n3 n4 n5 n6 n7 ns x0 x1 x2 x3 xs) xs (leb-true 4 (length xs) places.1)) ns (leb-true 8 (length ns) places.0)
+pub settings_back : (s : Settings) (l : Listed) → settings_fit l ≡ true → settings_from (settings_put s l) ≡ s
+settings_back s l fit =
+    let places = both (leb 8 (length l.wholes)) (leb 4 (length l.reals)) fit in
+    eight (λ ns. settings_from (settings_put s (listed ns l.reals)) ≡ s) (λ n0 n1 n2 n3 n4 n5 n6 n7 ns. four (λ xs. settings_from (settings_put s (listed (n0 ∷ n1 ∷ n2 ∷ n3 ∷ n4 ∷ n5 ∷ n6 ∷ n7 ∷ ns) xs)) ≡ s) (λ x0 x1 x2 x3 xs. front s n0 n1 n2 n3 n4 n5 n6 n7 ns x0 x1 x2 x3 xs) l.reals (leb-true 4 (length l.reals) places.1)) l.wholes (leb-true 8 (length l.wholes) places.0)
 
 -- ---- a head
 
@@ -115,29 +99,28 @@ fitted true k e = refl
 fitted false k e = absurd (omega (arith, e))
 
 -- a sheet that is checked and not refused: its lists hold the settings and the head of what it is read as
-pub checked_says : (sheet hs ns : List ℕ) (xs : List Float) (hs' ns' : List ℕ) (xs' : List Float) (c : Content) → parse sheet ≡ accepted c → Checks sheet hs ns xs 0 hs' ns' xs'
-    → (settings_from ns' xs' ≡ c.settings) × HasHead (header_of c) hs'
-checked_says sheet hs ns xs hs' ns' xs' c e k =
-    let z : 0 ≡ check_fault (Accepted (header_of c)) hs ns xs = k.said ∙ ap (λ (p : Parsed). check_fault (checked_of p) hs ns xs) e in
-    let fit : (leb 6 (length hs) && settings_fit (length ns) (length xs)) ≡ true = fitted (leb 6 (length hs) && settings_fit (length ns) (length xs)) 0 (sym z) in
-    let places = both (leb 6 (length hs)) (settings_fit (length ns) (length xs)) fit in
-    let p : hs' ≡ head_numbers (header_of c) hs = k.head ∙ ap (λ (p : Parsed). head_checked (checked_of p) hs ns xs) e ∙ rw fit in
-    let q : ns' ≡ wholes_settings c.settings ns = k.wholes ∙ ap (λ (p : Parsed). wholes_checked (checked_of p) hs ns xs) e ∙ rw fit in
-    let s : xs' ≡ reals_settings c.settings xs = k.reals ∙ ap (λ (p : Parsed). reals_checked (checked_of p) hs ns xs) e ∙ rw fit in
-    (rw (q, s) (settings_back c.settings ns xs places.1), rw p (head_back (header_of c) hs (leb-true 6 (length hs) places.0)))
+pub checked_says : (sheet hs : List ℕ) (l : Listed) (hs' : List ℕ) (l' : Listed) (c : Content) → parse sheet ≡ accepted c → Checks sheet hs l 0 hs' l'
+    → (settings_from l' ≡ c.settings) × HasHead (header_of c) hs'
+checked_says sheet hs l hs' l' c e k =
+    let z : 0 ≡ check_fault (Accepted (header_of c)) hs l = k.said ∙ ap (λ (p : Parsed). check_fault (checked_of p) hs l) e in
+    let fit : (leb 6 (length hs) && settings_fit l) ≡ true = fitted (leb 6 (length hs) && settings_fit l) 0 (sym z) in
+    let places = both (leb 6 (length hs)) (settings_fit l) fit in
+    let p : hs' ≡ head_numbers (header_of c) hs = k.head ∙ ap (λ (p : Parsed). head_checked (checked_of p) hs l) e ∙ rw fit in
+    let q : l' ≡ settings_put c.settings l = k.settings ∙ ap (λ (p : Parsed). settings_checked (checked_of p) hs l) e ∙ rw fit in
+    (rw q (settings_back c.settings l places.1), rw p (head_back (header_of c) hs (leb-true 6 (length hs) places.0)))
 
 -- a sheet that is written and not refused is read as the content it was written from
-module _ (vertices : List Float) (triangles neighbours tags ns : List ℕ) (xs : List Float) (out written out' written' : List ℕ) where
+module _ (vertices : List Float) (triangles neighbours tags : List ℕ) (l : Listed) (out written out' written' : List ℕ) where
   abbrev content : Content
-  content = content_from vertices triangles neighbours tags ns xs
+  content = content_from vertices triangles neighbours tags l
 
-  pub written_reads : Doubles content → WritesFrom vertices triangles neighbours tags ns xs out written 0 out' written' → parse (take (get_or written' 0 0) out') ≡ accepted content
+  pub written_reads : Doubles content → WritesFrom vertices triangles neighbours tags l out written 0 out' written' → parse (take (get_or written' 0 0) out') ≡ accepted content
   unfolding write_refusal
   written_reads d w =
-      let fit : (settings_fit (length ns) (length xs) && leb 1 (length written)) ≡ true = fitted (settings_fit (length ns) (length xs) && leb 1 (length written)) (write_refusal content (length out)) (sym w.said) in
+      let fit : (settings_fit l && leb 1 (length written)) ≡ true = fitted (settings_fit l && leb 1 (length written)) (write_refusal content (length out)) (sym w.said) in
       let fine : write_refusal content (length out) ≡ 0 = sym (w.said ∙ rw fit) in
       let refusal : refusal_of content ≡ 0 = (neither (refusal_of content) (pick (leb (length (bytes_of content)) (length out)) 0 8) fine).first in
-      let long : 1 ≤ length written = leb-true 1 (length written) (both (settings_fit (length ns) (length xs)) (leb 1 (length written)) fit).1 in
+      let long : 1 ≤ length written = leb-true 1 (length written) (both (settings_fit l) (leb 1 (length written)) fit).1 in
       let count : get_or written' 0 0 ≡ length (bytes_of content) = ap (λ (l : List ℕ). get_or l 0 0) w.told ∙ put_first written (length (bytes_of content)) long in
       let front : take (length (bytes_of content)) out' ≡ bytes_of content = ap (take (length (bytes_of content))) w.left ∙ take-append_seam (bytes_of content) (drop (length (bytes_of content)) out) in
       rw (count, front) (bytes-parse content d refusal)

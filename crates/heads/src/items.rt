@@ -1,4 +1,4 @@
-// The items of a sheet that have more than one number, put at the front of a list; what has no place is left out. The lists and the index are C's.
+// The items of a sheet that have more than one number, put at the front of a list; what has no place is left out. The lists and the index are C's. Two functions, since a vertex is two doubles and the corners three words.
 ghost use Rattle.std.specs.Prelude.{◌≡◌, set};
 ghost use Rattle.sheet.specs.Items.{vertex_in, corners_in};
 

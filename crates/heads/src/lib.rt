@@ -6,38 +6,24 @@ pub mod items;
 
 ghost use Rattle.std.specs.Prelude.{◌≡◌, set};
 ghost use Rattle.refusal.specs.Refusal.{fault};
+ghost use Rattle.records.specs.Numbers.{listed, listed_in};
 ghost use Rattle.heads.specs.Heads as Heads;
 
 use format::{Content, Settings};
-use records::lists::{Lists, put};
+use records::lists::{Lists, given, put};
 use refusal::Refusal;
 use sheet::Header;
 
-// Whether lists of these lengths hold settings.
-fn settings_fit(wholes: usize, reals: usize) -> bool
-    ensures { result ≡ Heads.settings_fit wholes reals }
-{
-    (8 <= wholes) & (4 <= reals)
-}
-
-// A setting from its presence and its number.
-fn given_from<T: Copy>(presence: u64, number: T) -> Option<T>
-    ensures { result ≡ Heads.given_by presence number }
-{
-    (presence != 0).then_some(number)
-}
-
 #[tactic(auto, unfolding(crate::specs::Heads::settings_from))]
-pub fn settings_from(wholes: &[u64], reals: &[f64]) -> Settings
-    ensures { result ≡ Heads.settings_from wholes.now reals.now }
+pub fn settings_from(lists: &Lists) -> Settings
+    ensures { result ≡ Heads.settings_from (listed_in lists.now) }
 {
-    let lists = Lists { wholes, reals };
-    let limit = given_from(lists.whole(0), lists.whole(1));
-    let tolerance = given_from(lists.whole(2), lists.real(0));
-    let step = given_from(lists.whole(3), lists.real(1));
-    let x = given_from(lists.whole(4), lists.real(2));
-    let y = given_from(lists.whole(5), lists.real(3));
-    let room = given_from(lists.whole(6), lists.whole(7));
+    let limit = given(lists.whole(0), lists.whole(1));
+    let tolerance = given(lists.whole(2), lists.real(0));
+    let step = given(lists.whole(3), lists.real(1));
+    let x = given(lists.whole(4), lists.real(2));
+    let y = given(lists.whole(5), lists.real(3));
+    let room = given(lists.whole(6), lists.whole(7));
     Settings {
         limit,
         tolerance,
@@ -64,9 +50,9 @@ fn put_number<T: Copy>(given: Option<T>, out: &mut [T], at: usize)
     }
 }
 
-#[tactic(auto, unfolding(crate::specs::Heads::wholes_settings, crate::specs::Heads::reals_settings))]
+#[tactic(auto, unfolding(crate::specs::Heads::settings_put))]
 pub fn put_settings(s: Settings, wholes: &mut [u64], reals: &mut [f64])
-    ensures { (wholes.new ≡ Heads.wholes_settings s wholes.old) × (reals.new ≡ Heads.reals_settings s reals.old) }
+    ensures { listed wholes.new reals.new ≡ Heads.settings_put s (listed wholes.old reals.old) }
 {
     put_presence(s.limit, wholes, 0);
     put_number(s.limit, wholes, 1);
@@ -82,6 +68,7 @@ pub fn put_settings(s: Settings, wholes: &mut [u64], reals: &mut [f64])
     put_number(s.room, wholes, 7);
 }
 
+// Each number by its place: a zip with `iter_mut` is known by its length alone, and a loop by index takes an invariant for six lines.
 #[tactic(auto, unfolding(crate::specs::Heads::head_numbers))]
 pub fn put_head(h: Header, head: &mut [u64])
     ensures { head.new ≡ Heads.head_numbers h head.old }
@@ -101,10 +88,12 @@ pub fn check(
     wholes: &mut [u64],
     reals: &mut [f64],
 ) -> Result<(), Refusal>
-    ensures { Heads.Checks sheet.now head.old wholes.old reals.old (fault result) head.new wholes.new reals.new }
+    ensures { Heads.Checks sheet.now head.old (listed wholes.old reals.old) (fault result) head.new (listed wholes.new reals.new) }
 {
     let header = sheet::check_sheet(sheet)?;
-    let fits = (6 <= head.len()) & settings_fit(wholes.len(), reals.len());
+    let lists = Lists { wholes, reals };
+    // `&`: by `&&` the lists are asked on one way alone, and the answer has to part the two ways again.
+    let fits = (6 <= head.len()) & lists.placed(8, 4);
     if !fits {
         return Err(Refusal::Space);
     }
@@ -119,18 +108,17 @@ pub fn write(
     triangles: &[u32],
     neighbours: &[u32],
     tags: &[u8],
-    wholes: &[u64],
-    reals: &[f64],
+    lists: &Lists,
     out: &mut [u8],
     written: &mut [u64],
 ) -> Result<(), Refusal>
-    ensures { Heads.WritesFrom vertices.now triangles.now neighbours.now tags.now wholes.now reals.now out.old written.old (fault result) out.new written.new }
+    ensures { Heads.WritesFrom vertices.now triangles.now neighbours.now tags.now (listed_in lists.now) out.old written.old (fault result) out.new written.new }
 {
-    let fits = settings_fit(wholes.len(), reals.len()) & (1 <= written.len());
+    let fits = lists.placed(8, 4) && 1 <= written.len();
     if !fits {
         return Err(Refusal::Space);
     }
-    let settings = settings_from(wholes, reals);
+    let settings = settings_from(lists);
     let content = Content {
         vertices,
         triangles,

@@ -16,7 +16,7 @@ use Rattle.mesh.specs.Element.{flat}
 use Rattle.conjugate.specs.Solver as Solver
 use Rattle.conjugate.specs.Solver.{Turn, halted, reached, moved}
 use Rattle.pde.specs.declared.Walk.{Walk}
-use Rattle.pde.specs.declared.Crossing.{Crossing}
+use Rattle.pde.specs.Outcome.{Crossing}
 use Rattle.pde.specs.PathLaws.{length_coordinates, walked_more, walked-most}
 use Rattle.pde.specs.Path.{point_floats, coordinates_of, added}
 use Rattle.model.specs.Space.{factor}

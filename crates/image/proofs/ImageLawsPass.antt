@@ -16,7 +16,7 @@ use Rattle.laplace.specs.Placed.{padded}
 use Rattle.conjugate.specs.Solver as Solver
 use Rattle.conjugate.specs.Solver.{Turn, halted, reached, moved}
 use Rattle.gradient.specs.Gradient.{gradients}
-use Rattle.pde.specs.declared.Crossing.{Crossing}
+use Rattle.pde.specs.Outcome.{Crossing}
 use Rattle.pde.specs.Start.{triangle_containing, pick_start}
 use Rattle.pde.specs.Crossing.{crossing}
 use Rattle.pde.specs.Path.{point_floats, coordinates_of, walked, added}

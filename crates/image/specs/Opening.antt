@@ -5,19 +5,18 @@ use Rattle.binary64.specs.Constants.{plus_zero}
 use Rattle.binary64.specs.Root.{root}
 use Rattle.stretch.specs.Stretch.{splice}
 use Rattle.sparse.specs.Stored.{Sound}
-use Rattle.laplace.specs.declared.Places.{Places}
 use Rattle.laplace.specs.Placed.{values_of, padded}
 use Rattle.conjugate.specs.Solver.{Solve}
 use Rattle.format.specs.Content.{max_vertices, max_triangles, max_limit, default_limit, default_tolerance, whole_or, real_or}
 use Rattle.format.specs.Range.{InRange}
 use Rattle.format.specs.Sheet.{content_of}
 use Rattle.sheet.specs.declared.Header.{Header}
-use Rattle.sheet.specs.Items.{vertex_in, whole_in}
+use Rattle.sheet.specs.Items.{coordinate_in, whole_in}
 use Rattle.sheet.specs.ItemLaws.{IsAccepted}
 use Rattle.model.specs.Task.{Task, vertex_count, triangle_count, both_given, task}
 use Rattle.model.specs.Run.{matrix_of, right_of}
 use Rattle.work.specs.declared.Plan.{Plan}
-use Rattle.work.specs.Layout.{at_right, at_row, at_values, at_gradients, at_norms, at_neighbours, at_tags, at_starts, at_columns, at_heads, at_links, at_row_columns, matrix_at}
+use Rattle.work.specs.Layout.{at_right, at_row, at_values, at_gradients, at_norms, at_neighbours, at_tags, matrix_at}
 use Rattle.work.specs.Memory.{begun_again, vectors_put}
 use Rattle.work.specs.declared.Run.{Run}
 use Rattle.model.specs.Machine.{fresh, needs}
@@ -46,9 +45,9 @@ unfoldable pub joined : {A : Type 0} → (ℕ → List A) → ℕ → List A
 joined f zero = []
 joined f (suc k) = joined f k ++ f k
 
--- of the part of a sheet that starts after a section's count: the coordinates of n vertices, k numbers, n tags
-abbrev pub vertex_read : List ℕ → ℕ → List Float
-vertex_read part i = (vertex_in part i).x ∷ (vertex_in part i).y ∷ []
+-- of the part of a sheet that starts after a section's count: k coordinates, k numbers, n tags
+abbrev pub coordinate_read : List ℕ → ℕ → List Float
+coordinate_read part i = coordinate_in part i ∷ []
 
 abbrev pub number_read : List ℕ → ℕ → List ℕ
 number_read part i = whole_in part i ∷ []
@@ -56,8 +55,8 @@ number_read part i = whole_in part i ∷ []
 abbrev pub tag_read : List ℕ → ℕ → List ℕ
 tag_read part i = get_or part i 0 ∷ []
 
-abbrev pub vertices_read : List ℕ → ℕ → List Float
-vertices_read part n = joined (vertex_read part) n
+abbrev pub coordinates_read : List ℕ → ℕ → List Float
+coordinates_read part k = joined (coordinate_read part) k
 
 abbrev pub numbers_read : List ℕ → ℕ → List ℕ
 numbers_read part k = joined (number_read part) k
@@ -87,22 +86,6 @@ mesh_words c words = splice (splice (splice words 0 c.triangles) (at_neighbours 
 pub record Loaded (c : Task) (floats : List Float) (words : List ℕ) (floats' : List Float) (words' : List ℕ) : Type 0 where
   pub floats_are : floats' ≡ mesh_floats c floats
   pub words_are : words' ≡ mesh_words c words
-
--- where the assembly finds them
-abbrev pub places_at : ℕ → ℕ → Places
-places_at n t = record {
-  vertices = 0;
-  right = at_right n t;
-  row = at_row n t;
-  values = at_values n t;
-  triangles = 0;
-  tags = at_tags t;
-  starts = at_starts n t;
-  cols = at_columns n t;
-  heads = at_heads n t;
-  links = at_links n t;
-  rowcols = at_row_columns n t;
-}
 
 -- the right side, the row buffer and the values behind the vertices; the words are those of every place
 unfoldable pub assembled_floats : Task → List Float → List Float

@@ -18,7 +18,7 @@ use Rattle.sparse.specs.Stored.{matrix}
 use Rattle.sparse.specs.ProductLaws.{length-rows_of, matrix_kept}
 use Rattle.mesh.specs.Element.{flat}
 use Rattle.mesh.specs.Mesh.{triangle_count}
-use Rattle.mesh.specs.Work.{vertices_of, triangles_of, neighbours_of, tags_of, first_at, Linked}
+use Rattle.mesh.specs.Work.{vertices_of, triangles_of, neighbours_of, tags_of, first_at, Linked, field_of}
 use Rattle.conjugate.specs.declared.Pass.{Pass}
 use Rattle.conjugate.specs.Solver.{Solve, Turn, halted, reached, moved, pass}
 use Rattle.conjugate.specs.SolverLaws.{Long, after, after_long}
@@ -26,14 +26,13 @@ use Rattle.conjugate.specs.Placed.{InRow, Passed, row_of, read, stored_after, pl
 use Rattle.conjugate.specs.PlacedLaws.{Adjoin, passed_in}
 use Rattle.gradient.specs.Gradient.{gradients}
 use Rattle.pde.specs.declared.Walk.{Walk}
-use Rattle.pde.specs.declared.Crossing.{Crossing}
-use Rattle.pde.specs.declared.Field.{Field}
-use Rattle.pde.specs.Stands.{FieldStands}
+use Rattle.pde.specs.Outcome.{Crossing}
+use Rattle.mesh.specs.declared.field.Field.{Field}
+use Rattle.mesh.specs.Stands.{FieldStands}
 use Rattle.pde.specs.StandsLaws.{triangles_count, crossing_stands}
 use Rattle.pde.specs.Path.{point_floats, coordinates_of, ended, added}
 use Rattle.pde.specs.PathLaws.{walked_more}
 use Rattle.pde.specs.Crossing.{gradient_at, crossing, crossing_along}
-use Rattle.pde.specs.Work.{field_of}
 use Rattle.model.specs.Space.{factor}
 use Rattle.model.specs.Run.{rule, nowhere}
 use Rattle.work.specs.declared.Gives.{Gives}
@@ -41,14 +40,14 @@ use Rattle.work.specs.declared.Plan.{Plan}
 use Rattle.work.specs.declared.Stand.{Stand}
 use Rattle.work.specs.declared.Step.{Step}
 use Rattle.work.specs.Layout.{at_x, at_r, at_p, at_product, at_gradients, at_norms, matrix_at, vectors_at}
-use Rattle.work.specs.Memory.{Stepped, vectors_in, solved_step, solve_step, set_out_step, walked_stand, crossed_stand, start_by, begin_step, crossing_from, crossing_of, cross_step, next_of, step_on, front_of, work, once}
+use Rattle.work.specs.Memory.{Stepped, vectors_in, solved_step, solve_step, set_out_step, walked_stand, crossed_stand, start_by, begin_step, crossing_of, cross_step, next_of, step_on, front_of, work, once}
 use Rattle.work.specs.Ready.{Ready, Crosses, Steps, Comes}
 use Rattle.work.specs.Kinds.{SetsOut, Searchable, Steppable, Leads, gradients_put, found_in, found_by, lost_by}
 use Rattle.work.specs.StartedLaws.{set_out-same, start_is}
 use Rattle.work.specs.StandingLaws.{turn_of, step_over}
 use Rattle.work.proofs.Laws.{once_comes}
 use Rattle.pde.specs.declared.Entry.{Entry}
-use Rattle.kinds.specs.Found.{found_on, entry_at}
+use Rattle.kinds.specs.Found.{found_on}
 use Rattle.kinds.specs.FoundLaws.{found_stands}
 use Rattle.kinds.specs.Solving.{turn_behind, turned_stand, given_by}
 use Rattle.kinds.specs.SolvingLaws.{solved_turned, solved_given}
@@ -63,12 +62,12 @@ solve_adjoin : (n t : ℕ) → Adjoin (vectors_at n t) n
 solve_adjoin n t = record { r_at = omega arith; p_at = omega arith; product_at = omega arith }
 
 -- a pass in a slice of the vectors is one at the front of what stands behind the matrix
-pub passed_behind : (n : ℕ) (behind new : List Float) (tolerance rs : Float) {m m' : List (List Sparse.Entry)} {answer : Pass} → m ≡ m' → length new ≡ 4 * n
-    → Passed (take (4 * n) behind) new n (row_of n) (pass flat m tolerance (read (take (4 * n) behind) (row_of n) n rs)) answer
+pub passed_behind : (n : ℕ) (behind new : List Float) (tolerance rs : Float) {k : ℕ} {tiny tolerance' : Float} {m m' : List (List Sparse.Entry)} {answer : Pass} → k ≡ n → tiny ≡ flat → tolerance' ≡ tolerance → m ≡ m' → length new ≡ 4 * n
+    → Passed (take (4 * n) behind) new k (row_of k) (pass tiny m tolerance' (read (take (4 * n) behind) (row_of k) k rs)) answer
     → Passed (take (4 * n) behind) (take (4 * n) (new ++ drop (4 * n) behind)) n (row_of n) (pass flat m' tolerance (read (take (4 * n) behind) (row_of n) n rs)) answer
-passed_behind n behind new tolerance rs em long d =
+passed_behind n behind new tolerance rs ek ey et em long d =
     let e : take (4 * n) (new ++ drop (4 * n) behind) ≡ new = take_at new (drop (4 * n) behind) (4 * n) long in
-    rw (e, ← em) d
+    rw (e, ← em) (rw (ek, ey, et) at d)
 
 -- and so one of the whole front
 module _ (plan : Plan) (words : List ℕ) (f : List Float) (s : Stand) (h : Steppable plan words f s) where
@@ -131,7 +130,7 @@ whole l n h = part_all l n h
 
 module _ (plan : Plan) (words : List ℕ) (f : List Float) (h : Searchable plan words f) where
   -- what stands from the gradients on
-  pub front_gradients : (at : ℕ) → at ≡ at_gradients plan.n plan.t → take (length f - at) (drop at f) ≡ part f (at_gradients plan.n plan.t) (2 * plan.t)
+  front_gradients : (at : ℕ) → at ≡ at_gradients plan.n plan.t → take (length f - at) (drop at f) ≡ part f (at_gradients plan.n plan.t) (2 * plan.t)
   unfolding part
   front_gradients at e = let k : length f - at ≡ 2 * plan.t = omega (arith, h.long) in rw (k, e)
 
@@ -205,18 +204,16 @@ begin_leads plan words f s d f' o e = record {
 pub triangle_in_mesh : (plan : Plan) {words : List ℕ} {f : List Float} {u : ℕ} {d : Field} (k : ℕ) → Ready plan words → FieldStands f words (first_at plan.n plan.t) u d → k < plan.t → k < triangle_count d.mesh.triangles.now
 triangle_in_mesh plan k r st h = let e = triangles_count r.linked st.mesh in omega (arith, e, h)
 
-pub crossing_is : (plan : Plan) (words : List ℕ) (f : List Float) (at : Entry) {u : ℕ} {d : Field} {g : Point} {gs : List Float} {r : Crossing} → Ready plan words → u ≡ at_x plan.n plan.t → FieldStands f words (first_at plan.n plan.t) u d
-    → gs ≡ part f (at_gradients plan.n plan.t) (2 * plan.t) → g ≡ gradient_at gs at.triangle
-    → r ≡ crossing_along rule d.mesh.vertices.now d.mesh.triangles.now d.mesh.neighbours.now (triangle_count d.mesh.triangles.now) d.values.now g plan.step at.point at.triangle at.edge
-    → r ≡ crossing_from plan words f at.point at.triangle at.edge
-unfolding vertices_of triangles_of neighbours_of field_of crossing
-crossing_is plan words f at {u} {d} {g} {gs} {r} ready eu st es eg is =
-    let i = is ∙ crossing_stands u ready.linked st rule plan.step g at.point at.triangle at.edge in
-    rw (eg, es, eu) at i
-
 -- the crossing of the path's triangle
-pub crossing_here : (plan : Plan) (words : List ℕ) (f : List Float) (s : Stand) {at : Entry} {c : Crossing} → at ≡ entry_at s.walk → c ≡ crossing_from plan words f at.point at.triangle at.edge → c ≡ crossing_of plan words f s
-crossing_here plan words f s ea ec = ec ∙ ap (λ (x : Entry). crossing_from plan words f x.point x.triangle x.edge) ea
+pub crossing_is : (plan : Plan) (words : List ℕ) (f : List Float) (h : Searchable plan words f) (s : Stand) {at u : ℕ} {d : Field} {g : Point} {r : Crossing} → at ≡ at_gradients plan.n plan.t → u ≡ at_x plan.n plan.t → FieldStands f words (first_at plan.n plan.t) u d
+    → g ≡ gradient_at (take (length f - at) (drop at f)) s.walk.triangle
+    → r ≡ crossing_along rule d.mesh.vertices.now d.mesh.triangles.now d.mesh.neighbours.now (triangle_count d.mesh.triangles.now) d.values.now g plan.step s.walk.position s.walk.triangle s.walk.edge
+    → r ≡ crossing_of plan words f s
+unfolding vertices_of triangles_of neighbours_of field_of crossing
+crossing_is plan words f h s {at} {u} {d} {g} {r} ea eu st eg is =
+    let w = s.walk in
+    let i = is ∙ crossing_stands u h.ready.linked st rule plan.step g w.position w.triangle w.edge in
+    rw (eg, front_gradients plan words f h at ea, eu) at i
 
 pub cross_leads : (plan : Plan) (words : List ℕ) (f : List Float) (s : Stand) (c : Crossing) (s' : Stand) → c ≡ crossing_of plan words f s → s' ≡ crossed_stand plan s c
     → Leads (cross_step plan words f s) (record { stand = s'; gives = Gives.Crossed c }) f

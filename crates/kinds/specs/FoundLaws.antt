@@ -2,8 +2,8 @@
 use Rattle.std.specs.Prelude.{◌≡◌, List, ℕ, Float, Option, Some, None}
 use Rattle.plane.specs.declared.Point.{Point}
 use Rattle.mesh.specs.Work.{MeshAt, Linked}
-use Rattle.pde.specs.declared.Field.{Field}
-use Rattle.pde.specs.Stands.{FieldStands}
+use Rattle.mesh.specs.declared.field.Field.{Field}
+use Rattle.mesh.specs.Stands.{FieldStands}
 use Rattle.pde.specs.StandsLaws.{containing_stands, pick_start_stands}
 use Rattle.work.specs.Kinds.{found_in}
 use Rattle.kinds.specs.Found.{found_on}

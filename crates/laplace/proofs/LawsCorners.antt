@@ -1,14 +1,15 @@
 -- Laws of heads and links, and the scan that makes them: from the last corner to the first. Assumes nothing.
-use Prim.Native.Nat.{ℕ, zero, suc, ◌+◌, ◌-◌, ◌≤◌, ◌<◌}
-use native.Mathlib.Nat.{add-zero}
+use Prim.Native.Nat.{ℕ, zero, suc, ◌+◌, ◌≤◌, ◌<◌}
+use native.Mathlib.Nat.{add-zero, min-le_right}
 use native.Mathlib.Numerals.{add-one}
 use native.Mathlib.Omega.{arith}
 use mathlib.Core.Path.{◌≡◌, refl, sym, ap, ◌∙◌}
 use mathlib.Core.Bool.{Bool, true, false}
 use mathlib.Core.List.{List, [], ◌∷◌, ◌++◌}
 use lib.Dec.{eqb}
-use lib.ListN.{length, get_or, set, drop, replicate, length-append, length-set, replicate-append-replicate, get_or-append, drop_of_length-le}
-use lib.Seq.{drop-cons, ext_get_or, get_or_at, get_or-set_same, get_or-set_other}
+use lib.ListN.{length, get_or, set, take, drop, replicate, length-append, length-set, length-take, replicate-append-replicate, get_or-append, drop_of_length-le}
+use lib.Seq.{drop-cons, ext_get_or, get_or_at, get_or-set_same, get_or-set_other, take-append_seam}
+use Rattle.std.proofs.lemmas.List.{get_or-take, take-take}
 use borrow.Author.Tests.{eqb-true, eqb-false}
 use Rattle.binary64.specs.Number.{pick}
 use Rattle.stretch.specs.Stretch.{splice}
@@ -23,6 +24,10 @@ unfolding AllBelow
 below_at n [] i b h = absurd (omega arith)
 below_at n (x ∷ xs) zero b h = b.0
 below_at n (x ∷ xs) (suc i) b h = below_at n xs i b.1 (omega arith)
+
+pub below_more : (n : ℕ) (l : List ℕ) (j : ℕ) (rest : List ℕ) → AllBelow n l → l ≡ j ∷ rest → (j < n) × AllBelow n rest
+unfolding AllBelow
+below_more n l j rest b e = rw e at b
 
 -- ---- heads and links
 
@@ -78,24 +83,40 @@ heads_cons k t ts n h =
 
 -- ---- the scan
 
--- corner c - 1 put in front of those after it
-pub scan_heads : (ts hs : List ℕ) (n c : ℕ) → AllBelow n ts → 0 < c → c ≤ length ts → hs ≡ heads_from c (drop c ts) n
-    → set hs (get_or ts (c - 1) 0) (c - 1 + 1) ≡ heads_from (c - 1) (drop (c - 1) ts) n
-scan_heads ts hs n zero b p h e = absurd (omega arith)
-scan_heads ts hs n (suc k) b p h e =
-    let q : suc k - 1 ≡ k = omega arith in
-    let v = get_or ts k 0 in
-    rw (q, add-one k, e, drop-cons ts k 0 h) (heads_cons k v (drop (suc k) ts) n (below_at n ts k b h))
+-- corner i is the last of those left, and is taken from the back of them
+module _ (ts : List ℕ) (n : ℕ) (b : AllBelow n ts) (left front : List ℕ) (v i : ℕ) (e : left ≡ take (length left) ts) (f : left ≡ front ++ (v ∷ [])) (g : i ≡ length front) where
+  long : length left ≡ suc i
+  long = ap length f ∙ length-append front (v ∷ []) ∙ omega arith
 
-pub scan_links : (ts hs l₀ l : List ℕ) (n c : ℕ) → AllBelow n ts → 0 < c → c ≤ length ts → hs ≡ heads_from c (drop c ts) n → l ≡ splice l₀ c (links_from c (drop c ts))
-    → set l (c - 1) (get_or hs (get_or ts (c - 1) 0) 0) ≡ splice l₀ (c - 1) (links_from (c - 1) (drop (c - 1) ts))
-unfolding links_from
-scan_links ts hs l₀ l n zero b p h e g = absurd (omega arith)
-scan_links ts hs l₀ l n (suc k) b p h e g =
-    let q : suc k - 1 ≡ k = omega arith in
-    let v = get_or ts k 0 in
-    let d = drop (suc k) ts in
-    rw (q, e, g, drop-cons ts k 0 h, get_or_heads (suc k) d n v (below_at n ts k b h)) (sym (splice_cons l₀ k (first_from (suc k) v d) (links_from (suc k) d)))
+  pub scan_within : i < length ts
+  scan_within = omega (arith, long, ap length e, length-take (length left) ts, min-le_right (length left) (length ts))
+
+  vertex_is : v ≡ get_or ts i 0
+  vertex_is = sym (get_or_at front v [] 0 i (sym g)) ∙ ap (λ (y : List ℕ). get_or y i 0) (sym f ∙ e) ∙ get_or-take (length left) ts i 0 (omega (arith, long))
+
+  pub scan_below : v < n
+  scan_below = omega (arith, vertex_is, below_at n ts i b scan_within)
+
+  pub scan_left : front ≡ take (length front) ts
+  scan_left = sym (take-append_seam front (v ∷ [])) ∙ ap (λ (y : List ℕ). take (length front) y) (sym f ∙ e) ∙ take-take (length front) (length left) ts (omega (arith, long))
+
+  rest_is : drop i ts ≡ v ∷ drop (suc i) ts
+  rest_is = drop-cons ts i 0 scan_within ∙ ap (λ (x : ℕ). x ∷ drop (suc i) ts) (sym vertex_is)
+
+  -- it is put in front of those after it
+  module _ (hs : List ℕ) (h : hs ≡ heads_from (length left) (drop (length left) ts) n) where
+    heads_are : hs ≡ heads_from (suc i) (drop (suc i) ts) n
+    heads_are = rw long at h
+
+    pub scan_heads : set hs v (i + 1) ≡ heads_from (length front) (drop (length front) ts) n
+    scan_heads = rw (heads_are, add-one i, ← g, rest_is) (heads_cons i v (drop (suc i) ts) n scan_below)
+
+    pub scan_links : (l₀ l : List ℕ) → l ≡ splice l₀ (length left) (links_from (length left) (drop (length left) ts))
+        → set l i (get_or hs v 0) ≡ splice l₀ (length front) (links_from (length front) (drop (length front) ts))
+    unfolding links_from
+    scan_links l₀ l k =
+        let d = drop (suc i) ts in
+        rw (k, long, heads_are, ← g, rest_is, get_or_heads (suc i) d n v scan_below) (sym (splice_cons l₀ i (first_from (suc i) v d) (links_from (suc i) d)))
 
 -- before the first turn
 pub scan_none : (ts : List ℕ) (n k : ℕ) → length ts ≤ k → heads_from k (drop k ts) n ≡ replicate n 0

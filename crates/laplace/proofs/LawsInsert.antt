@@ -10,7 +10,7 @@ use lib.Ieee.{Float, nan}
 use lib.ListN.{length, take, drop, get_or, set, length-append, length-drop}
 use lib.Seq.{length-take-le}
 use borrow.Author.Tests.{ltb-true, ltb-false, le-leb, lt-leb, eqb-true, eqb-false}
-use Rattle.std.specs.Prelude.{Some, None, cond, position, unwrap_or, not}
+use Rattle.std.specs.Prelude.{Option, Some, None, Result, Ok, Err, cond, position, unwrap_or, not}
 use Rattle.std.specs.List.{copy_within, prefix_len}
 use Rattle.std.proofs.lemmas.List.{get_or-take, take-take, drop-take}
 use Rattle.binary64.specs.Arith.{◌⊕◌}
@@ -20,7 +20,7 @@ use Rattle.stretch.specs.StretchLaws.{part_take, splice_part}
 use Rattle.sparse.specs.Sparse.{Entry, entry, entries}
 use Rattle.laplace.specs.Assembly.{insert}
 use Rattle.laplace.specs.Placed.{values_in, columns_in}
-use Rattle.laplace.specs.Row.{position_of, entries_in, Room, Written}
+use Rattle.laplace.specs.Row.{position_of, Finds, entries_in, Room, Written}
 
 module _ {A : Type 0} where
   -- a list's front written over itself
@@ -96,12 +96,17 @@ below_is j (c ∷ cs) = go (ltb c j) refl (below_is j cs)
     go false t e = rw (le-leb j c (ltb-false c j t))
 
 -- and so the place of the first that is not
-pub position_is : (j : ℕ) (cs : List ℕ) → unwrap_or (position (λ (c : ℕ). leb j c) cs) (length cs) ≡ position_of j cs
+position_is : (j : ℕ) (cs : List ℕ) → unwrap_or (position (λ (c : ℕ). leb j c) cs) (length cs) ≡ position_of j cs
 position_is j cs = rw (below_is j cs) (go (ltb (position_of j cs) (length cs)) refl (position_le j cs))
   where
     go : (b : Bool) → ltb (position_of j cs) (length cs) ≡ b → position_of j cs ≤ length cs → unwrap_or (cond b (Some (position_of j cs)) None) (length cs) ≡ position_of j cs
     go true t h = refl
     go false t h = omega (arith, ltb-false (position_of j cs) (length cs) t)
+
+-- among the first k
+pub position_from : (j k : ℕ) (cs : List ℕ) (o : Option ℕ) (p : ℕ) → k ≤ length cs → o ≡ position (λ (c : ℕ). leb j c) (take k cs) → p ≡ unwrap_or o k → p ≡ position_of j (take k cs)
+position_from j k cs o p h e f =
+    f ∙ ap (λ (x : Option ℕ). unwrap_or x k) e ∙ ap (λ (n : ℕ). unwrap_or (position (λ (c : ℕ). leb j c) (take k cs)) n) (sym (length-take-le k cs h)) ∙ position_is j (take k cs)
 
 -- ---- columns and values of entries
 
@@ -187,8 +192,8 @@ pub length_in : (v : List Float) (c : List ℕ) (k : ℕ) → k ≤ length v →
 length_in v c k hv hc = length-take-le k c hc ∙ sym (length-take-le k v hv)
 
 module _ (v : List Float) (c : List ℕ) (k j : ℕ) (x : Float) (hv : k ≤ length v) (hc : k ≤ length c) (p : ℕ) (e : p ≡ position_of j (take k c)) where
-  pub written_repeat : p < k → get_or c p 0 ≡ j → Written v c (set v p (get_or v p nan ⊕ x)) c k (insert j x (entries_in v c k))
-  written_repeat h g =
+  repeat_written : p < k → get_or c p 0 ≡ j → Written v c (set v p (get_or v p nan ⊕ x)) c k (insert j x (entries_in v c k))
+  repeat_written h g =
       let cs = take k c in
       let vs = take k v in
       let lc : length cs ≡ k = length-take-le k c hc in
@@ -202,6 +207,9 @@ module _ (v : List Float) (c : List ℕ) (k j : ℕ) (x : Float) (hv : k ≤ len
         columns = sym (splice_take c k) ∙ ap (λ (l : List ℕ). splice c 0 l) (sym i.columns);
       }
 
+  within : p ≤ k
+  within = omega (arith, e, position_le j (take k c), length-take-le k c hc)
+
   module _ (f : p < k → get_or c p 0 ≡ j → ⊥) where
     fresh : Fresh j x (take k c) (take k v) p (insert j x (entries_in v c k))
     fresh =
@@ -209,8 +217,9 @@ module _ (v : List Float) (c : List ℕ) (k j : ℕ) (x : Float) (hv : k ≤ len
         rw e (insert-fresh j x (take k c) (take k v) (length_in v c k hv hc) (λ (h : position_of j (take k c) < length (take k c)). λ (g : get_or (take k c) (position_of j (take k c)) 0 ≡ j).
         let h' : p < k = omega arith in f h' (sym (get_or-take k c p 0 h') ∙ ap (λ (y : ℕ). get_or (take k c) y 0) e ∙ g)))
 
-    fresh-length : p ≤ k → length (insert j x (entries_in v c k)) ≡ suc k
-    fresh-length h =
+    fresh-length : length (insert j x (entries_in v c k)) ≡ suc k
+    fresh-length =
+        let h = within in
         let cs = take k c in
         let es = insert j x (entries_in v c k) in
         let lc : length cs ≡ k = length-take-le k c hc in
@@ -221,16 +230,42 @@ module _ (v : List Float) (c : List ℕ) (k j : ℕ) (x : Float) (hv : k ≤ len
         omega (arith, length_columns es)
 
     -- so there is room to move up by one
-    pub fresh_room : p ≤ k → Room v c (insert j x (entries_in v c k)) → (k < length v) × (k < length c)
-    fresh_room h m = omega (arith, fresh-length h, m)
+    room_fresh : Room v c (insert j x (entries_in v c k)) → (k < length v) × (k < length c)
+    room_fresh m = omega (arith, fresh-length, m)
 
-    pub written-fresh : p ≤ k → Room v c (insert j x (entries_in v c k))
+    fresh-written : Room v c (insert j x (entries_in v c k))
         → Written v c (set (copy_within v p k (p + 1)) p x) (set (copy_within c p k (p + 1)) p j) (k + 1) (insert j x (entries_in v c k))
-    written-fresh h m =
+    fresh-written m =
         let i = fresh in
-        let r = fresh_room h m in
+        let r = room_fresh m in
         record {
-          count = add-one k ∙ sym (fresh-length h);
-          values = made_free v k p x h r.0 ∙ ap (λ (l : List Float). splice v 0 l) (sym i.values);
-          columns = made_free c k p j h r.1 ∙ ap (λ (l : List ℕ). splice c 0 l) (sym i.columns);
+          count = add-one k ∙ sym fresh-length;
+          values = made_free v k p x within r.0 ∙ ap (λ (l : List Float). splice v 0 l) (sym i.values);
+          columns = made_free c k p j within r.1 ∙ ap (λ (l : List ℕ). splice c 0 l) (sym i.columns);
         }
+
+-- the same, by what was found
+pub found_within : (j k : ℕ) (c : List ℕ) (o : Result ℕ ℕ) (p : ℕ) → Finds j k c o → o ≡ Ok p → p < k
+unfolding Finds
+found_within j k c o p f e = let h = rw e at f in h.1
+
+module _ (v : List Float) (c : List ℕ) (k j : ℕ) (x : Float) (hv : k ≤ length v) (hc : k ≤ length c) (o : Result ℕ ℕ) (f : Finds j k c o) (p : ℕ) where
+  module _ (e : o ≡ Ok p) where
+    stands : (p ≡ position_of j (take k c)) × (p < k) × (get_or c p 0 ≡ j)
+    unfolding Finds
+    stands = rw e at f
+
+    pub written_repeat : Written v c (set v p (get_or v p nan ⊕ x)) c k (insert j x (entries_in v c k))
+    written_repeat = repeat_written v c k j x hv hc p stands.0 stands.1 stands.2
+
+  module _ (e : o ≡ Err p) (m : Room v c (insert j x (entries_in v c k))) where
+    goes : (p ≡ position_of j (take k c)) × (p < k → get_or c p 0 ≡ j → ⊥)
+    unfolding Finds
+    goes = rw e at f
+
+    -- there is room to move up by one
+    pub fresh_room : (p ≤ k) × (k < length v) × (k < length c)
+    fresh_room = let r = room_fresh v c k j x hv hc p goes.0 goes.1 m in (within v c k j x hv hc p goes.0, r.0, r.1)
+
+    pub written-fresh : Written v c (set (copy_within v p k (p + 1)) p x) (set (copy_within c p k (p + 1)) p j) (k + 1) (insert j x (entries_in v c k))
+    written-fresh = fresh-written v c k j x hv hc p goes.0 goes.1 m

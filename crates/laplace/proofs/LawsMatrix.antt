@@ -16,7 +16,7 @@ use Rattle.laplace.specs.Matrix.{row_rising, row_below, pushes_below, count, cou
 use Rattle.laplace.specs.Elements.{AreElements, pushes_of}
 use Rattle.laplace.specs.Placed.{values_in, columns_in, values_of, columns_of, starts_from}
 use Rattle.laplace.specs.Row.{Written, Tidy, Building}
-use Rattle.laplace.specs.Rows.{row_of, rows_of, room_of, Appends, Ready, RowPut, RowsPut}
+use Rattle.laplace.specs.Rows.{row_of, rows_of, room_of, Ready, RowPut, RowsPut}
 use Rattle.laplace.proofs.LawsInsert.{take-splice_front, length_values, length_columns}
 use Rattle.laplace.proofs.LawsRow.{tidy_none, building_on}
 use Rattle.laplace.proofs.LawsPlaced.{length-values_of, length-columns_of, length_starts, length-rows, values_snoc, columns_snoc, starts_snoc}
@@ -50,13 +50,6 @@ module _ (m : Elements) (v : List Float) (c starts cols : List ℕ) (values : Li
 
     built : Building m v' c' k
     built = building_on m v c 0 row_starts v' c' k (row_of m r) a tidy_row
-
-    pub row_appends : Appends (length values) (length cols) k before
-    row_appends =
-        record {
-          room = omega (arith, y.values_long, a.count);
-          cols_room = omega (arith, y.cols_long, a.count);
-        }
 
     values_are : length (values_in (row_of m r)) ≡ k
     values_are = length_values (row_of m r) ∙ sym a.count

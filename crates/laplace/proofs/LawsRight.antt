@@ -4,27 +4,45 @@ use native.Mathlib.Omega.{arith}
 use mathlib.Core.Path.{◌≡◌, refl, sym, ap, ◌∙◌}
 use mathlib.Core.Bool.{Bool, true, false}
 use mathlib.Core.List.{List, [], ◌∷◌, ◌++◌}
+use mathlib.Core.Logic.{◌⊎◌, inl, inr}
 use lib.Dec.{leb, eqb}
 use lib.Ieee.{Float, nan}
 use lib.ListN.{length, get_or, set, take, drop, drop_of_length-le}
 use lib.Seq.{drop-cons}
-use borrow.Author.Tests.{le-leb, lt-leb, ne_eqb}
+use borrow.Author.Tests.{le-leb, lt-leb, ne_eqb, eqb-true, eqb-false}
 use Rattle.std.specs.Prelude.{Option, Some, None}
+use Rattle.std.proofs.lemmas.Option.{none-some, same_Some}
 use Rattle.binary64.specs.Arith.{◌⊖◌, ◌⊗◌}
 use Rattle.binary64.specs.Number.{pick}
 use Rattle.binary64.specs.NumberLaws.{both}
 use Rattle.laplace.specs.declared.element.Elements.{Elements}
 use Rattle.laplace.specs.declared.element.Stiff.{Stiff}
-use Rattle.laplace.specs.declared.element.Triangle.{Triangle}
 use Rattle.laplace.specs.Mesh.{tag_of, free, held_value}
 use Rattle.laplace.specs.Assembly.{Push, push, triangle_pushes, pushes, coupled, all_coupled, settled}
 use Rattle.laplace.specs.Element.{stiff_in, triangle_of}
 use Rattle.laplace.specs.Elements.{pushes_of}
 use Rattle.laplace.specs.Row.{side_of}
-use Rattle.laplace.specs.Right.{side_pushes, stiff_pushes, all_free, coupled_by, settled_value}
-use Rattle.laplace.proofs.LawsElement.{triangle_pushes_lem}
+use Rattle.laplace.specs.Right.{side_pushes, stiff_pushes, all_free, coupled_by, held_at, settled_value}
+use Rattle.laplace.proofs.LawsElement.{triangle_off, triangle_pushes_lem}
 
 -- ---- one push
+
+-- what the value of a tag tells of it
+held-none : (t : ℕ) → held_at t ≡ None → t ≡ 0
+unfolding held_at
+held-none t = go (eqb t 0) refl
+  where
+    go : (b : Bool) → eqb t 0 ≡ b → pick b None (Some (held_value t)) ≡ None → t ≡ 0
+    go true e h = eqb-true t 0 e
+    go false e h = absurd (none-some _ (sym h))
+
+held-some : (t : ℕ) (x : Float) → held_at t ≡ Some x → (t ≡ 0 → ⊥) × (x ≡ held_value t)
+unfolding held_at
+held-some t x = go (eqb t 0) refl
+  where
+    go : (b : Bool) → eqb t 0 ≡ b → pick b None (Some (held_value t)) ≡ Some x → (t ≡ 0 → ⊥) × (x ≡ held_value t)
+    go true e h = absurd (none-some _ h)
+    go false e h = (eqb-false t 0 e, sym (same_Some _ _ h))
 
 module _ (tags : List ℕ) (i j : ℕ) (v : Float) (rhs : List Float) where
   -- the other half of a pair
@@ -33,46 +51,73 @@ module _ (tags : List ℕ) (i j : ℕ) (v : Float) (rhs : List Float) where
   coupled_above h = rw (lt-leb i j h)
 
   module _ (h : i ≤ j) where
-    pub coupled-free : get_or tags i 0 ≡ 0 → get_or tags j 0 ≡ 0 → rhs ≡ coupled_by tags (push i j v) rhs
+    -- one is free and the other held
+    pub coupled-row : (x : Float) → held_at (get_or tags i 0) ≡ None → held_at (get_or tags j 0) ≡ Some x → set rhs i (get_or rhs i nan ⊖ v ⊗ x) ≡ coupled_by tags (push i j v) rhs
     unfolding coupled_by free tag_of
-    coupled-free a b = rw (le-leb i j h, a, b)
+    coupled-row x a b = let y = held-some _ _ b in rw (le-leb i j h, held-none _ a, ne_eqb (get_or tags j 0) 0 y.0, y.1)
 
-    pub coupled-held : (get_or tags i 0 ≡ 0 → ⊥) → (get_or tags j 0 ≡ 0 → ⊥) → rhs ≡ coupled_by tags (push i j v) rhs
+    pub coupled-col : (x : Float) → held_at (get_or tags i 0) ≡ Some x → held_at (get_or tags j 0) ≡ None → set rhs j (get_or rhs j nan ⊖ v ⊗ x) ≡ coupled_by tags (push i j v) rhs
     unfolding coupled_by free tag_of
-    coupled-held a b = rw (le-leb i j h, ne_eqb (get_or tags i 0) 0 a, ne_eqb (get_or tags j 0) 0 b)
+    coupled-col x a b = let y = held-some _ _ a in rw (le-leb i j h, ne_eqb (get_or tags i 0) 0 y.0, held-none _ b, y.1)
 
-    pub coupled-row : get_or tags i 0 ≡ 0 → (get_or tags j 0 ≡ 0 → ⊥) → set rhs i (get_or rhs i nan ⊖ v ⊗ held_value (get_or tags j 0)) ≡ coupled_by tags (push i j v) rhs
+    -- both are free, or both held
+    pub coupled-free : held_at (get_or tags i 0) ≡ None → held_at (get_or tags j 0) ≡ None → rhs ≡ coupled_by tags (push i j v) rhs
     unfolding coupled_by free tag_of
-    coupled-row a b = rw (le-leb i j h, a, ne_eqb (get_or tags j 0) 0 b)
+    coupled-free a b = rw (le-leb i j h, held-none _ a, held-none _ b)
 
-    pub coupled-col : (get_or tags i 0 ≡ 0 → ⊥) → get_or tags j 0 ≡ 0 → set rhs j (get_or rhs j nan ⊖ v ⊗ held_value (get_or tags i 0)) ≡ coupled_by tags (push i j v) rhs
+    pub coupled-held : (x y : Float) → held_at (get_or tags i 0) ≡ Some x → held_at (get_or tags j 0) ≡ Some y → rhs ≡ coupled_by tags (push i j v) rhs
     unfolding coupled_by free tag_of
-    coupled-col a b = rw (le-leb i j h, ne_eqb (get_or tags i 0) 0 a, b)
+    coupled-held x y a b = rw (le-leb i j h, ne_eqb (get_or tags i 0) 0 (held-some _ _ a).0, ne_eqb (get_or tags j 0) 0 (held-some _ _ b).0)
 
 -- ---- several pushes
-
--- the three of a side
-pub side_coupled : (tags : List ℕ) (p q r : Push) (rhs : List Float) → coupled_by tags r (coupled_by tags q (coupled_by tags p rhs)) ≡ all_coupled held_value tags (p ∷ q ∷ r ∷ []) rhs
-unfolding all_coupled coupled_by
-side_coupled tags p q r rhs = refl
 
 all_append : (tags : List ℕ) (ps qs : List Push) (rhs : List Float) → all_coupled held_value tags (ps ++ qs) rhs ≡ all_coupled held_value tags qs (all_coupled held_value tags ps rhs)
 unfolding all_coupled
 all_append tags [] qs rhs = refl
 all_append tags (p ∷ ps) qs rhs = all_append tags ps qs (coupled held_value tags p rhs)
 
--- the nine of a triangle
-pub nine-coupled : (tags : List ℕ) (q : Triangle) (s : Stiff) (rhs : List Float)
-    → all_coupled held_value tags (side_pushes q.k q (side_of s 2)) (all_coupled held_value tags (side_pushes q.j q (side_of s 1)) (all_coupled held_value tags (side_pushes q.i q (side_of s 0)) rhs))
-    ≡ all_coupled held_value tags (stiff_pushes q (Some s)) rhs
-unfolding stiff_pushes side_of
-nine-coupled tags q s rhs =
-    let p0 = side_pushes q.i q (side_of s 0) in
-    let p1 = side_pushes q.j q (side_of s 1) in
-    let p2 = side_pushes q.k q (side_of s 2) in
-    sym (all_append tags p0 (p1 ++ p2) rhs ∙ all_append tags p1 p2 (all_coupled held_value tags p0 rhs))
+-- those of a side, of which some are left
+pub side_again : (tags : List ℕ) (v : ℕ) (q : List ℕ) (s : List Float) (rhs : List Float) (j : ℕ) (x : Float) (q' : List ℕ) (s' : List Float) → q ≡ j ∷ q' → s ≡ x ∷ s'
+    → all_coupled held_value tags (side_pushes v q' s') (coupled_by tags (push v j x) rhs) ≡ all_coupled held_value tags (side_pushes v q s) rhs
+unfolding all_coupled coupled_by side_pushes
+side_again tags v q s rhs j x q' s' e f = rw (e, f) refl
 
-pub skipped_coupled : (tags : List ℕ) (q : Triangle) (rhs : List Float) → rhs ≡ all_coupled held_value tags (stiff_pushes q None) rhs
+pub side_done : (tags : List ℕ) (v : ℕ) (q : List ℕ) (s : List Float) (rhs : List Float) → (length q ≡ 0) ⊎ (length s ≡ 0) → all_coupled held_value tags (side_pushes v q s) rhs ≡ rhs
+unfolding all_coupled side_pushes
+side_done tags v [] s rhs h = refl
+side_done tags v (j ∷ q) [] rhs h = refl
+side_done tags v (j ∷ q) (x ∷ s) rhs (inl h) = absurd (omega arith)
+side_done tags v (j ∷ q) (x ∷ s) rhs (inr h) = absurd (omega arith)
+
+-- those of the sides of a triangle from corner e on, which are the vertices vs
+unfoldable pub sides_from : List ℕ → Stiff → ℕ → List ℕ → List Push
+sides_from q s e [] = []
+sides_from q s e (v ∷ vs) = side_pushes v q (side_of s e) ++ sides_from q s (suc e) vs
+
+module _ (tags q : List ℕ) (s : Stiff) (rhs : List Float) where
+  -- the nine of the triangle
+  pub sides_all : length q ≡ 3 → all_coupled held_value tags (sides_from q s 0 (drop 0 q)) rhs ≡ all_coupled held_value tags (stiff_pushes q (Some s)) rhs
+  unfolding sides_from side_pushes side_of stiff_pushes
+  sides_all h = go q h
+    where
+      go : (l : List ℕ) → length l ≡ 3 → all_coupled held_value tags (sides_from l s 0 l) rhs ≡ all_coupled held_value tags (stiff_pushes l (Some s)) rhs
+      go [] e = absurd (omega arith)
+      go (i ∷ []) e = absurd (omega arith)
+      go (i ∷ j ∷ []) e = absurd (omega arith)
+      go (i ∷ j ∷ k ∷ []) e = refl
+      go (i ∷ j ∷ k ∷ x ∷ l) e = absurd (omega arith)
+
+  pub sides_again : (e : ℕ) → e < length q
+      → all_coupled held_value tags (sides_from q s (suc e) (drop (suc e) q)) (all_coupled held_value tags (side_pushes (get_or q e 0) q (side_of s e)) rhs)
+      ≡ all_coupled held_value tags (sides_from q s e (drop e q)) rhs
+  unfolding sides_from
+  sides_again e h = rw (drop-cons q e 0 h) (sym (all_append tags (side_pushes (get_or q e 0) q (side_of s e)) (sides_from q s (suc e) (drop (suc e) q)) rhs))
+
+  pub sides_done : (e : ℕ) → length q ≤ e → all_coupled held_value tags (sides_from q s e (drop e q)) rhs ≡ rhs
+  unfolding sides_from all_coupled
+  sides_done e h = rw (drop_of_length-le q {i = e} h) refl
+
+pub skipped_coupled : (tags : List ℕ) (q : List ℕ) (rhs : List Float) → rhs ≡ all_coupled held_value tags (stiff_pushes q None) rhs
 unfolding stiff_pushes all_coupled
 skipped_coupled tags q rhs = refl
 
@@ -94,13 +139,13 @@ module _ (tags : List ℕ) where
   unfolding all_coupled
   free_none rhs = refl
 
-  free-nine : (q : Triangle) (o : Option Stiff) (rhs : List Float) → free tags q.i ≡ true → free tags q.j ≡ true → free tags q.k ≡ true → all_coupled held_value tags (stiff_pushes q o) rhs ≡ rhs
+  free-nine : (q : List ℕ) (o : Option Stiff) (rhs : List Float) → free tags (get_or q 0 0) ≡ true → free tags (get_or q 1 0) ≡ true → free tags (get_or q 2 0) ≡ true → all_coupled held_value tags (stiff_pushes q o) rhs ≡ rhs
   unfolding stiff_pushes
   free-nine q None rhs i j k = free_none rhs
   free-nine q (Some s) rhs i j k =
       free_on _ _ rhs i i ∙ free_on _ _ rhs i j ∙ free_on _ _ rhs i k ∙ free_on _ _ rhs j i ∙ free_on _ _ rhs j j ∙ free_on _ _ rhs j k ∙ free_on _ _ rhs k i ∙ free_on _ _ rhs k j ∙ free_on _ _ rhs k k ∙ free_none rhs
 
-pub free-coupled : (tags : List ℕ) (q : Triangle) (o : Option Stiff) (rhs : List Float) → all_free tags q ≡ true → rhs ≡ all_coupled held_value tags (stiff_pushes q o) rhs
+pub free-coupled : (tags : List ℕ) (q : List ℕ) (o : Option Stiff) (rhs : List Float) → all_free tags q ≡ true → rhs ≡ all_coupled held_value tags (stiff_pushes q o) rhs
 unfolding all_free
 free-coupled tags q o rhs y =
     let b = both _ _ y in
@@ -114,34 +159,19 @@ pub record Coupling (m : Elements) (rhs₀ rhs : List Float) (i : ℕ) : Type 0 
   pub within : 3 * i ≤ length m.triangles.now
   pub rest : all_coupled held_value m.tags.now (pushes m.flat m.vertices.now (drop (3 * i) m.triangles.now)) rhs ≡ all_coupled held_value m.tags.now (pushes_of m) rhs₀
 
-three_off : (ts : List ℕ) (i : ℕ) → 3 * i + 2 < length ts → (let q = triangle_of ts i in drop (3 * i) ts ≡ q.i ∷ q.j ∷ q.k ∷ drop (3 * (i + 1)) ts)
-unfolding triangle_of
-three_off ts i h =
-    let a : suc (3 * i) ≡ 3 * i + 1 = omega arith in
-    let b : suc (3 * i + 1) ≡ 3 * i + 2 = omega arith in
-    let c : suc (3 * i + 2) ≡ 3 * (i + 1) = omega arith in
-    drop-cons ts (3 * i) 0 (omega arith)
-    ∙ ap (λ (x : List ℕ). get_or ts (3 * i) 0 ∷ x)
-    (ap (λ (x : ℕ). drop x ts) a ∙ drop-cons ts (3 * i + 1) 0 (omega arith)
-    ∙ ap (λ (x : List ℕ). get_or ts (3 * i + 1) 0 ∷ x)
-    (ap (λ (x : ℕ). drop x ts) b ∙ drop-cons ts (3 * i + 2) 0 h ∙ ap (λ (x : ℕ). get_or ts (3 * i + 2) 0 ∷ drop x ts) c))
-
-pub coupling_none : (m : Elements) (rhs : List Float) → Coupling m rhs rhs 0
-coupling_none m rhs = record { within = omega arith; rest = refl }
-
-pub coupling_again : (m : Elements) (rhs₀ rhs : List Float) (i : ℕ) → Coupling m rhs₀ rhs i → 3 * i + 2 < length m.triangles.now → (q : Triangle) → q ≡ triangle_of m.triangles.now i
+pub coupling_again : (m : Elements) (rhs₀ rhs : List Float) (i : ℕ) → Coupling m rhs₀ rhs i → 3 * i + 2 < length m.triangles.now → (q : List ℕ) → q ≡ triangle_of m.triangles.now i
     → Coupling m rhs₀ (all_coupled held_value m.tags.now (stiff_pushes q (stiff_in m.flat m.vertices.now q)) rhs) (i + 1)
-unfolding pushes
+unfolding pushes triangle_of
 coupling_again m rhs₀ rhs i s h q eq =
     let tags = m.tags.now in
     let vs = m.vertices.now in
     let ts = m.triangles.now in
-    let d : drop (3 * i) ts ≡ q.i ∷ q.j ∷ q.k ∷ drop (3 * (i + 1)) ts = rw (← eq) at (three_off ts i h) in
-    let e : all_coupled held_value tags (pushes m.flat vs (drop (3 * i) ts)) rhs
-    ≡ all_coupled held_value tags (pushes m.flat vs (drop (3 * (i + 1)) ts)) (all_coupled held_value tags (stiff_pushes q (stiff_in m.flat vs q)) rhs) =
-    ap (λ (l : List ℕ). all_coupled held_value tags (pushes m.flat vs l) rhs) d ∙ all_append tags (triangle_pushes m.flat vs q.i q.j q.k) (pushes m.flat vs (drop (3 * (i + 1)) ts)) rhs
-    ∙ ap (λ (l : List Push). all_coupled held_value tags (pushes m.flat vs (drop (3 * (i + 1)) ts)) (all_coupled held_value tags l rhs)) (triangle_pushes_lem m.flat vs q) in
-    record { within = omega arith; rest = sym e ∙ s.rest }
+    let t = triangle_of ts i in
+    let rest = pushes m.flat vs (drop (3 * (i + 1)) ts) in
+    let e : all_coupled held_value tags (pushes m.flat vs (drop (3 * i) ts)) rhs ≡ all_coupled held_value tags rest (all_coupled held_value tags (stiff_pushes t (stiff_in m.flat vs t)) rhs) =
+    ap (λ (l : List ℕ). all_coupled held_value tags (pushes m.flat vs l) rhs) (triangle_off ts i h) ∙ all_append tags (triangle_pushes m.flat vs (get_or t 0 0) (get_or t 1 0) (get_or t 2 0)) rest rhs
+    ∙ ap (λ (l : List Push). all_coupled held_value tags rest (all_coupled held_value tags l rhs)) (triangle_pushes_lem m.flat vs t) in
+    rw eq record { within = omega arith; rest = sym e ∙ s.rest }
 
 pub coupling_done : (m : Elements) (rhs₀ rhs : List Float) (i : ℕ) → length m.triangles.now ≤ 3 * i → Coupling m rhs₀ rhs i → rhs ≡ all_coupled held_value m.tags.now (pushes_of m) rhs₀
 unfolding pushes all_coupled

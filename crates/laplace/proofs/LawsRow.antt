@@ -5,6 +5,7 @@ use native.Mathlib.Omega.{arith}
 use mathlib.Core.Path.{◌≡◌, refl, sym, ap, ◌∙◌}
 use mathlib.Core.Bool.{Bool, true, false}
 use mathlib.Core.List.{List, [], ◌∷◌}
+use mathlib.Core.Logic.{◌⊎◌, inl, inr}
 use lib.Dec.{eqb, ltb}
 use lib.Ieee.{Float}
 use lib.ListN.{length, take, get_or, set}
@@ -18,15 +19,14 @@ use Rattle.stretch.specs.Stretch.{splice}
 use Rattle.stretch.specs.StretchLaws.{length-splice, splice-one, splice-splice-over}
 use Rattle.sparse.specs.Sparse.{Entry, entry}
 use Rattle.laplace.specs.declared.element.Elements.{Elements}
-use Rattle.laplace.specs.declared.element.Side.{Side}
 use Rattle.laplace.specs.declared.element.Stiff.{Stiff}
-use Rattle.laplace.specs.declared.element.Triangle.{Triangle}
 use Rattle.laplace.specs.Mesh.{tag_of, free}
 use Rattle.laplace.specs.Assembly.{Push, insert, inserted, row}
-use Rattle.laplace.specs.Matrix.{Rising, Below, insert_rising, insert_below}
-use Rattle.laplace.specs.Element.{stiff_in, triangle_of, Within}
+use Rattle.laplace.specs.Matrix.{Rising, Below, AllBelow, insert_rising, insert_below}
+use Rattle.laplace.specs.Element.{stiff_in, triangle_of}
 use Rattle.laplace.specs.Placed.{values_in, columns_in}
 use Rattle.laplace.specs.Row.{entries_in, Room, Written, Tidy, Building, placed, three_placed, side_of, sides_placed, added_by, added}
+use Rattle.laplace.proofs.LawsCorners.{below_more}
 use Rattle.laplace.proofs.LawsInsert.{splice_take, take-splice_front, length_in, length_columns, length_values, entries_columns, entries_values, entries_again, length-entries}
 
 -- ---- entries that were written
@@ -117,22 +117,20 @@ module _ (n : ℕ) (tags : List ℕ) where
       go true = insert_longer j v es
       go false = le_refl (length es)
 
-  pub tidy_three : (q : Triangle) (s : Side) (es : List Entry) → Within n q → Tidy n es → Tidy n (three_placed tags q s es)
-  unfolding three_placed
-  tidy_three q s es h t =
-      let a = placed tags q.i s.i es in
-      let b = placed tags q.j s.j a in
-      tidy_placed q.k s.k b h.k (tidy_placed q.j s.j a h.j (tidy_placed q.i s.i es h.i t))
+  pub tidy_three : (q : List ℕ) (s : List Float) (es : List Entry) → AllBelow n q → Tidy n es → Tidy n (three_placed tags q s es)
+  unfolding three_placed AllBelow
+  tidy_three [] s es h t = t
+  tidy_three (j ∷ q) [] es h t = t
+  tidy_three (j ∷ q) (v ∷ s) es h t = tidy_three q s (placed tags j v es) h.1 (tidy_placed j v es h.0 t)
 
-  three_longer : (q : Triangle) (s : Side) (es : List Entry) → length es ≤ length (three_placed tags q s es)
+  three_longer : (q : List ℕ) (s : List Float) (es : List Entry) → length es ≤ length (three_placed tags q s es)
   unfolding three_placed
-  three_longer q s es =
-      let a = placed tags q.i s.i es in
-      let b = placed tags q.j s.j a in
-      omega (arith, placed_longer q.i s.i es, placed_longer q.j s.j a, placed_longer q.k s.k b)
+  three_longer [] s es = le_refl (length es)
+  three_longer (j ∷ q) [] es = le_refl (length es)
+  three_longer (j ∷ q) (v ∷ s) es = omega (arith, placed_longer j v es, three_longer q s (placed tags j v es))
 
-  module _ (flat : Float) (vs : List Float) (q : Triangle) (e : ℕ) (es : List Entry) where
-    pub tidy_by : Within n q → Tidy n es → Tidy n (added_by tags flat vs q e es)
+  module _ (flat : Float) (vs : List Float) (q : List ℕ) (e : ℕ) (es : List Entry) where
+    pub tidy_by : AllBelow n q → Tidy n es → Tidy n (added_by tags flat vs q e es)
     unfolding added_by sides_placed
     tidy_by h t = go (stiff_in flat vs q)
       where
@@ -178,12 +176,12 @@ module _ (m : Elements) (v : List Float) (c : List ℕ) (k : ℕ) (b : Building 
   written_lone ps r e = rw (ne_eqb (get_or m.tags.now r 0) 0 e) record { count = refl; values = sym (splice-one v 0 one); columns = sym (splice-one c 0 r) }
 
   -- a corner's entries: none where its triangle is skipped
-  module _ (i : ℕ) (q : Triangle) (o : Option Stiff) (e : q ≡ triangle_of m.triangles.now (i / 3)) (d : o ≡ stiff_in m.flat m.vertices.now q) where
+  module _ (i : ℕ) (q : List ℕ) (o : Option Stiff) (e : q ≡ triangle_of m.triangles.now (i / 3)) (d : o ≡ stiff_in m.flat m.vertices.now q) where
     pub written_skipped : o ≡ None → Written v c v c k (added m.tags.now m.flat m.vertices.now m.triangles.now i (entries_in v c k))
     unfolding added added_by sides_placed
     written_skipped y = rw (← e, ← d, y) (written_none v c k (omega (arith, b)) (omega (arith, b)))
 
-    pub written-corner : (s : Stiff) → o ≡ Some s → (v' : List Float) (c' : List ℕ) (k' : ℕ) (x : Side) → x ≡ side_of s (i % 3)
+    pub written-corner : (s : Stiff) → o ≡ Some s → (v' : List Float) (c' : List ℕ) (k' : ℕ) (x : List Float) → x ≡ side_of s (i % 3)
         → Written v c v' c' k' (three_placed m.tags.now q x (entries_in v c k))
         → Written v c v' c' k' (added m.tags.now m.flat m.vertices.now m.triangles.now i (entries_in v c k))
     unfolding added added_by sides_placed
@@ -208,3 +206,55 @@ module _ (m : Elements) (v : List Float) (c : List ℕ) (k : ℕ) (b : Building 
         → Written v c v'' c'' k'' (placed m.tags.now j x es)
     placed_on v'' c'' k'' j x s =
         written_then v c v' c' k' es r v'' c'' k'' (placed m.tags.now j x es) (placed_longer (length m.tags.now) m.tags.now j x es) (rw row_read at s)
+
+-- ---- the three of a corner, one after the other
+
+-- after some turns the k' entries es stand in the row, and the columns q' and the values s' are left
+pub record Placing (m : Elements) (v : List Float) (c : List ℕ) (k : ℕ) (v' : List Float) (c' : List ℕ) (k' : ℕ) (q : List ℕ) (s : List Float) (q' : List ℕ) (s' : List Float) : Type 0 where
+  pub es : List Entry
+  pub written : Written v c v' c' k' es
+  pub tidy : Tidy (length m.tags.now) es
+  pub below : AllBelow (length m.tags.now) q'
+  pub rest : three_placed m.tags.now q' s' es ≡ three_placed m.tags.now q s (entries_in v c k)
+
+module _ (m : Elements) (v : List Float) (c : List ℕ) (k : ℕ) (b : Building m v c k) (q : List ℕ) (s : List Float) where
+  pub place_none : AllBelow (length m.tags.now) q → (q' : List ℕ) (s' : List Float) → q' ≡ q → s' ≡ s → Placing m v c k v c k q s q' s'
+  place_none h q' s' e f =
+      record {
+        es = entries_in v c k;
+        written = written_none v c k (omega (arith, b)) (omega (arith, b));
+        tidy = b.tidy;
+        below = rw e h;
+        rest = ap (λ (x : List ℕ). three_placed m.tags.now x s' (entries_in v c k)) e ∙ ap (λ (x : List Float). three_placed m.tags.now q x (entries_in v c k)) f;
+      }
+
+  module _ (v' : List Float) (c' : List ℕ) (k' : ℕ) (q' : List ℕ) (s' : List Float) (p : Placing m v c k v' c' k' q s q' s') where
+    pub place_building : Building m v' c' k'
+    place_building = building_on m v c k b v' c' k' p.es p.written p.tidy
+
+    -- one more
+    module _ (j : ℕ) (x : Float) (q'' : List ℕ) (s'' : List Float) (e : q' ≡ j ∷ q'') (f : s' ≡ x ∷ s'') where
+      pub place_below : j < length m.tags.now
+      place_below = (below_more (length m.tags.now) q' j q'' p.below e).0
+
+      pub place_again : (v'' : List Float) (c'' : List ℕ) (k'' : ℕ) → Written v' c' v'' c'' k'' (placed m.tags.now j x (entries_in v' c' k')) → Placing m v c k v'' c'' k'' q s q'' s''
+      unfolding three_placed
+      place_again v'' c'' k'' a =
+          let h = below_more (length m.tags.now) q' j q'' p.below e in
+          record {
+            es = placed m.tags.now j x p.es;
+            written = placed_on m v c k b v' c' k' p.es p.written p.tidy v'' c'' k'' j x a;
+            tidy = tidy_placed (length m.tags.now) m.tags.now j x p.es h.0 p.tidy;
+            below = h.1;
+            rest = rw (e, f) at p.rest;
+          }
+
+    pub place_done : (length q' ≡ 0) ⊎ (length s' ≡ 0) → Written v c v' c' k' (three_placed m.tags.now q s (entries_in v c k))
+    unfolding three_placed
+    place_done h = rw (← p.rest, none q' s' h) p.written
+      where
+        none : (a : List ℕ) (y : List Float) → (length a ≡ 0) ⊎ (length y ≡ 0) → three_placed m.tags.now a y p.es ≡ p.es
+        none [] y g = refl
+        none (j ∷ a) [] g = refl
+        none (j ∷ a) (x ∷ y) (inl g) = absurd (omega arith)
+        none (j ∷ a) (x ∷ y) (inr g) = absurd (omega arith)

@@ -17,17 +17,15 @@ use Rattle.binary64.specs.Number.{pick}
 use Rattle.stretch.specs.StretchLaws.{splice_nil}
 use Rattle.sparse.specs.Sparse.{Entry}
 use Rattle.laplace.specs.declared.element.Elements.{Elements}
-use Rattle.laplace.specs.declared.element.Side.{Side}
 use Rattle.laplace.specs.declared.element.Stiff.{Stiff}
-use Rattle.laplace.specs.declared.element.Triangle.{Triangle}
 use Rattle.laplace.specs.Mesh.{free}
-use Rattle.laplace.specs.Assembly.{Push, push, triangle_pushes, pushes, insert, inserted}
+use Rattle.laplace.specs.Assembly.{Push, triangle_pushes, pushes, insert, inserted}
 use Rattle.laplace.specs.Element.{stiff_in, triangle_of}
 use Rattle.laplace.specs.Corners.{first_from}
 use Rattle.laplace.specs.Placed.{values_in, columns_in}
 use Rattle.laplace.specs.Elements.{pushes_of}
-use Rattle.laplace.specs.Right.{stiff_pushes}
-use Rattle.laplace.specs.Row.{entries_in, Written, Tidy, Building, three_placed, side_of, sides_placed, added_by, added, Linked}
+use Rattle.laplace.specs.Right.{side_pushes, stiff_pushes}
+use Rattle.laplace.specs.Row.{entries_in, Written, Tidy, Building, placed, three_placed, side_of, sides_placed, added_by, added, Linked}
 use Rattle.laplace.proofs.LawsElement.{triangle_pushes_lem, triangle-within}
 use Rattle.laplace.proofs.LawsCorners.{get_or_heads, get_or_links}
 use Rattle.laplace.proofs.LawsRow.{written_then, tidy_none, tidy_by, by_longer, row_read}
@@ -92,46 +90,48 @@ unfolding inserted
 inserted-append tags r [] qs es = refl
 inserted-append tags r (p ∷ ps) qs es = inserted-append tags r ps qs (pick (eqb p.row r && free tags p.col) (insert p.col p.value es) es)
 
--- the three of one corner, which is vertex v
-side_inserted : (tags : List ℕ) (r v : ℕ) (q : Triangle) (s : Side) (es : List Entry)
-    → inserted tags r (push v q.i s.i ∷ push v q.j s.j ∷ push v q.k s.k ∷ []) es ≡ pick (eqb v r) (three_placed tags q s es) es
-unfolding inserted three_placed
-side_inserted tags r v q s es = go (eqb v r)
-  where
-    step : Bool → ℕ → Float → List Entry → List Entry
-    step b j x l = pick (b && free tags j) (insert j x l) l
-
-    go : (b : Bool) → step b q.k s.k (step b q.j s.j (step b q.i s.i es)) ≡ pick b (three_placed tags q s es) es
-    go true = refl
-    go false = refl
-
 pick_same : (b : Bool) (es : List Entry) → pick b es es ≡ es
 pick_same true es = refl
 pick_same false es = refl
 
--- the nine of a triangle
-triangle-inserted : (tags : List ℕ) (flat : Float) (vs : List Float) (r : ℕ) (q : Triangle) (es : List Entry)
-    → (let a = pick (eqb q.i r) (added_by tags flat vs q 0 es) es in let b = pick (eqb q.j r) (added_by tags flat vs q 1 a) a in
-    inserted tags r (triangle_pushes flat vs q.i q.j q.k) es ≡ pick (eqb q.k r) (added_by tags flat vs q 2 b) b)
-unfolding added_by inserted side_of sides_placed stiff_pushes
-triangle-inserted tags flat vs r q es = rw (triangle_pushes_lem flat vs q) (go (stiff_in flat vs q))
+-- the three of one corner, which is vertex v
+side_inserted : (tags : List ℕ) (r v : ℕ) (q : List ℕ) (s : List Float) (es : List Entry) → inserted tags r (side_pushes v q s) es ≡ pick (eqb v r) (three_placed tags q s es) es
+unfolding inserted side_pushes three_placed placed
+side_inserted tags r v [] s es = sym (pick_same (eqb v r) es)
+side_inserted tags r v (j ∷ q) [] es = sym (pick_same (eqb v r) es)
+side_inserted tags r v (j ∷ q) (x ∷ s) es = go (eqb v r) (side_inserted tags r v q s)
   where
-    three : ℕ → Side → List Push
-    three v s = push v q.i s.i ∷ push v q.j s.j ∷ push v q.k s.k ∷ []
+    go : (b : Bool) → ((l : List Entry) → inserted tags r (side_pushes v q s) l ≡ pick b (three_placed tags q s l) l)
+        → inserted tags r (side_pushes v q s) (pick (b && free tags j) (insert j x es) es) ≡ pick b (three_placed tags q s (pick (free tags j) (insert j x es) es)) es
+    go true h = h (pick (free tags j) (insert j x es) es)
+    go false h = h es
+
+-- the nine of a triangle
+triangle-inserted : (tags : List ℕ) (flat : Float) (vs : List Float) (r i j k : ℕ) (es : List Entry)
+    → (let q = i ∷ j ∷ k ∷ [] in let a = pick (eqb i r) (added_by tags flat vs q 0 es) es in let b = pick (eqb j r) (added_by tags flat vs q 1 a) a in
+    inserted tags r (triangle_pushes flat vs i j k) es ≡ pick (eqb k r) (added_by tags flat vs q 2 b) b)
+unfolding added_by inserted side_of sides_placed side_pushes stiff_pushes
+triangle-inserted tags flat vs r i j k es = rw (triangle_pushes_lem flat vs (i ∷ j ∷ k ∷ [])) (go (stiff_in flat vs (i ∷ j ∷ k ∷ [])))
+  where
+    q : List ℕ
+    q = i ∷ j ∷ k ∷ []
 
     added_if : Option Stiff → ℕ → ℕ → List Entry → List Entry
     added_if o v e l = pick (eqb v r) (sides_placed tags q e o l) l
 
-    go : (o : Option Stiff) → inserted tags r (stiff_pushes q o) es ≡ added_if o q.k 2 (added_if o q.j 1 (added_if o q.i 0 es))
-    go None = rw (pick_same (eqb q.i r) es, pick_same (eqb q.j r) es, pick_same (eqb q.k r) es)
+    go : (o : Option Stiff) → inserted tags r (stiff_pushes q o) es ≡ added_if o k 2 (added_if o j 1 (added_if o i 0 es))
+    go None = rw (pick_same (eqb i r) es, pick_same (eqb j r) es, pick_same (eqb k r) es)
     go (Some s) =
-        let y = added_if (Some s) q.i 0 es in
-        let z = added_if (Some s) q.j 1 y in
-        inserted-append tags r (three q.i (side_of s 0)) (three q.j (side_of s 1) ++ three q.k (side_of s 2)) es
-        ∙ ap (λ (l : List Entry). inserted tags r (three q.j (side_of s 1) ++ three q.k (side_of s 2)) l) (side_inserted tags r q.i q (side_of s 0) es)
-        ∙ inserted-append tags r (three q.j (side_of s 1)) (three q.k (side_of s 2)) y
-        ∙ ap (λ (l : List Entry). inserted tags r (three q.k (side_of s 2)) l) (side_inserted tags r q.j q (side_of s 1) y)
-        ∙ side_inserted tags r q.k q (side_of s 2) z
+        let p0 = side_pushes i q (side_of s 0) in
+        let p1 = side_pushes j q (side_of s 1) in
+        let p2 = side_pushes k q (side_of s 2) in
+        let y = added_if (Some s) i 0 es in
+        let z = added_if (Some s) j 1 y in
+        inserted-append tags r p0 (p1 ++ p2) es
+        ∙ ap (λ (l : List Entry). inserted tags r (p1 ++ p2) l) (side_inserted tags r i q (side_of s 0) es)
+        ∙ inserted-append tags r p1 p2 y
+        ∙ ap (λ (l : List Entry). inserted tags r p2 l) (side_inserted tags r j q (side_of s 1) y)
+        ∙ side_inserted tags r k q (side_of s 2) z
 
 -- where a corner's triangle is
 added-at : (tags : List ℕ) (flat : Float) (vs : List Float) (ts : List ℕ) (c q e : ℕ) (es : List Entry) → c ≡ 3 * q + e → e < 3 → added tags flat vs ts c es ≡ added_by tags flat vs (triangle_of ts q) e es
@@ -141,7 +141,7 @@ added-at tags flat vs ts c q e es h l =
     let m : c % 3 ≡ e = omega arith in
     rw (d, m)
 
-triangle-next : (ts : List ℕ) (k q i j l : ℕ) (cs : List ℕ) → k ≡ 3 * q → drop k ts ≡ i ∷ j ∷ l ∷ cs → triangle_of ts q ≡ record { i = i; j = j; k = l }
+triangle-next : (ts : List ℕ) (k q i j l : ℕ) (cs : List ℕ) → k ≡ 3 * q → drop k ts ≡ i ∷ j ∷ l ∷ cs → triangle_of ts q ≡ i ∷ j ∷ l ∷ []
 unfolding triangle_of
 triangle-next ts k q i j l cs e d =
     let d1 : drop (suc k) ts ≡ j ∷ l ∷ cs = drop-next ts k i (j ∷ l ∷ cs) d in
@@ -161,10 +161,10 @@ walk_all tags flat vs ts r k q m [] es a b d = refl
 walk_all tags flat vs ts r k q m (i ∷ []) es a b d = absurd (omega arith)
 walk_all tags flat vs ts r k q m (i ∷ j ∷ []) es a b d = absurd (omega arith)
 walk_all tags flat vs ts r k q m (i ∷ j ∷ l ∷ cs) es a b d =
-    let t : Triangle = record { i = i; j = j; k = l } in
+    let t = i ∷ j ∷ l ∷ [] in
     let p : triangle_of ts q ≡ t = triangle-next ts k q i j l cs a d in
     let by : (c e : ℕ) (x : List Entry) → c ≡ 3 * q + e → e < 3 → added tags flat vs ts c x ≡ added_by tags flat vs t e x =
-    λ (c e : ℕ) (x : List Entry) (h : c ≡ 3 * q + e) (g : e < 3). added-at tags flat vs ts c q e x h g ∙ ap (λ (u : Triangle). added_by tags flat vs u e x) p in
+    λ (c e : ℕ) (x : List Entry) (h : c ≡ 3 * q + e) (g : e < 3). added-at tags flat vs ts c q e x h g ∙ ap (λ (u : List ℕ). added_by tags flat vs u e x) p in
     let y0 = pick (eqb i r) (added_by tags flat vs t 0 es) es in
     let y1 = pick (eqb j r) (added_by tags flat vs t 1 y0) y0 in
     let y2 = pick (eqb l r) (added_by tags flat vs t 2 y1) y1 in
@@ -175,7 +175,7 @@ walk_all tags flat vs ts r k q m (i ∷ j ∷ l ∷ cs) es a b d =
     let d2 : drop (suc (suc k)) ts ≡ l ∷ cs = drop-next ts (suc k) j (l ∷ cs) d1 in
     rw (e0, e1, e2)
     (walk_all tags flat vs ts r (suc (suc (suc k))) (suc q) (m - 1) cs y2 (omega arith) (omega arith) (drop-next ts (suc (suc k)) l cs d2)
-    ∙ ap (λ (x : List Entry). inserted tags r (pushes flat vs cs) x) (sym (triangle-inserted tags flat vs r t es))
+    ∙ ap (λ (x : List Entry). inserted tags r (pushes flat vs cs) x) (sym (triangle-inserted tags flat vs r i j l es))
     ∙ sym (inserted-append tags r (triangle_pushes flat vs i j l) (pushes flat vs cs) es))
 
 -- ---- the loop that walks

@@ -1,13 +1,11 @@
 -- A row as it is built: entries by their columns and their values, and what a corner of the mesh adds to them. Definitions only. Assumes nothing.
-use Rattle.std.specs.Prelude.{ℕ, zero, suc, ◌*◌, ◌/◌, ◌%◌, ◌≤◌, ◌≡◌, List, [], ◌∷◌, ltb, length, take, Float, Option, Some, None}
+use Rattle.std.specs.Prelude.{ℕ, zero, suc, ◌*◌, ◌/◌, ◌%◌, ◌<◌, ◌≤◌, ◌≡◌, List, [], ◌∷◌, ltb, length, get_or, take, Float, Option, Some, None, Result, Ok, Err}
 use Rattle.binary64.specs.Number.{pick}
 use Rattle.stretch.specs.Stretch.{part, splice}
 use Rattle.sparse.specs.Sparse.{Entry, entries}
 use Rattle.laplace.specs.declared.Places.{Places}
 use Rattle.laplace.specs.declared.element.Elements.{Elements}
 use Rattle.laplace.specs.declared.element.Stiff.{Stiff}
-use Rattle.laplace.specs.declared.element.Side.{Side}
-use Rattle.laplace.specs.declared.element.Triangle.{Triangle}
 use Rattle.laplace.specs.Mesh.{free}
 use Rattle.laplace.specs.Assembly.{insert}
 use Rattle.laplace.specs.Matrix.{Rising, Below}
@@ -22,6 +20,11 @@ use Rattle.laplace.specs.Placed.{values_in, columns_in}
 unfoldable pub position_of : ℕ → List ℕ → ℕ
 position_of j [] = 0
 position_of j (c ∷ cs) = pick (ltb c j) (suc (position_of j cs)) 0
+
+-- where the column j stands among the first k, or else where it goes
+unfoldable pub Finds : ℕ → ℕ → List ℕ → Result ℕ ℕ → Type 0
+Finds j k c (Ok p) = (p ≡ position_of j (take k c)) × (p < k) × (get_or c p 0 ≡ j)
+Finds j k c (Err p) = (p ≡ position_of j (take k c)) × (p < k → get_or c p 0 ≡ j → ⊥)
 
 -- the first k entries of columns and values
 abbrev pub entries_in : List Float → List ℕ → ℕ → List Entry
@@ -71,23 +74,25 @@ unfoldable pub placed : List ℕ → ℕ → Float → List Entry → List Entry
 placed tags j v es = pick (free tags j) (insert j v es) es
 
 -- one for each corner of the triangle
-unfoldable pub three_placed : List ℕ → Triangle → Side → List Entry → List Entry
+unfoldable pub three_placed : List ℕ → List ℕ → List Float → List Entry → List Entry
 unfolding placed
-three_placed tags q s es = placed tags q.k s.k (placed tags q.j s.j (placed tags q.i s.i es))
+three_placed tags [] s es = es
+three_placed tags (j ∷ q) [] es = es
+three_placed tags (j ∷ q) (v ∷ s) es = three_placed tags q s (placed tags j v es)
 
 -- the values that corner e of a triangle pushes
-unfoldable pub side_of : Stiff → ℕ → Side
-side_of s zero = record { i = s.ii; j = s.ij; k = s.ik }
-side_of s (suc zero) = record { i = s.ij; j = s.jj; k = s.jk }
-side_of s (suc (suc e)) = record { i = s.ik; j = s.jk; k = s.kk }
+unfoldable pub side_of : Stiff → ℕ → List Float
+side_of s zero = s.ii ∷ s.ij ∷ s.ik ∷ []
+side_of s (suc zero) = s.ij ∷ s.jj ∷ s.jk ∷ []
+side_of s (suc (suc e)) = s.ik ∷ s.jk ∷ s.kk ∷ []
 
 -- the entries of corner e of a triangle, none where it is skipped
-unfoldable pub sides_placed : List ℕ → Triangle → ℕ → Option Stiff → List Entry → List Entry
+unfoldable pub sides_placed : List ℕ → List ℕ → ℕ → Option Stiff → List Entry → List Entry
 unfolding three_placed
 sides_placed tags q e None es = es
 sides_placed tags q e (Some s) es = three_placed tags q (side_of s e) es
 
-unfoldable pub added_by : List ℕ → Float → List Float → Triangle → ℕ → List Entry → List Entry
+unfoldable pub added_by : List ℕ → Float → List Float → List ℕ → ℕ → List Entry → List Entry
 unfolding sides_placed
 added_by tags flat vs q e es = sides_placed tags q e (stiff_in flat vs q) es
 

@@ -9,9 +9,8 @@ pub fn link(triangles: &[u32], heads: &mut [u32], links: &mut [u32])
     ensures next { links.new ≡ links_of triangles.now }
 {
     heads.fill(0);
-    // By number, since heads and links hold the corners' numbers.
-    for c in (0..triangles.len()).rev() {
-        let v = triangles[c] as usize;
+    for (c, &v) in triangles.iter().enumerate().rev() {
+        let v = v as usize;
         links[c] = heads[v];
         heads[v] = c as u32 + 1;
     }

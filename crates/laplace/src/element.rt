@@ -1,6 +1,7 @@
-// The linear triangle (the P1 element): what its corners push on each other. Vertex numbers are words of the lent lists, and an index is widened by `as usize`.
-ghost use Rattle.std.specs.Prelude.{◌≡◌, ◌+◌, ◌*◌, ◌<◌, length};
+// The linear triangle (the P1 element): what its corners push on each other. Vertex numbers are words of the lent lists, and an index is widened by `as usize`, since no `From` leads from u32 to usize.
+ghost use Rattle.std.specs.Prelude.{ℕ, ◌≡◌, ◌+◌, ◌*◌, ◌<◌, length};
 ghost use Rattle.laplace.specs.Mesh.{vertex};
+ghost use Rattle.laplace.specs.Matrix.{AllBelow};
 ghost use Rattle.laplace.specs.Assembly as Assembly;
 ghost use Rattle.laplace.specs.Element as Element;
 ghost use Rattle.laplace.specs.Row as Row;
@@ -14,7 +15,7 @@ pub fn stiffness(inv: f64, s: Slope, t: Slope) -> f64
     (s.b * t.b + s.c * t.c) * inv * 0.5
 }
 
-// What the corners of a triangle push on each other.
+// What the corners of a triangle push on each other: a pair has one number for both its places. Named and not three rows, which would hold three of the numbers twice and be read by index, where a branch is quicker (docs/PROVING.md, Speed).
 #[derive(Clone, Copy)]
 pub struct Stiff {
     pub ii: f64,
@@ -47,13 +48,11 @@ pub fn stiff_of(flat: f64, a: Point, b: Point, c: Point) -> Option<Stiff>
     })
 }
 
+// The vertices of a triangle, as words of the lent lists.
+pub type Triangle = [u32; 3];
+
 // What one corner pushes on each of the three.
-#[derive(Clone, Copy)]
-pub struct Side {
-    pub i: f64,
-    pub j: f64,
-    pub k: f64,
-}
+pub type Side = [f64; 3];
 
 impl Stiff {
     #[tactic(auto, unfolding(crate::specs::Row::side_of))]
@@ -61,35 +60,16 @@ impl Stiff {
         ensures { result ≡ Row.side_of self corner }
     {
         match corner {
-            0 => Side {
-                i: self.ii,
-                j: self.ij,
-                k: self.ik,
-            },
-            1 => Side {
-                i: self.ij,
-                j: self.jj,
-                k: self.jk,
-            },
-            _ => Side {
-                i: self.ik,
-                j: self.jk,
-                k: self.kk,
-            },
+            0 => [self.ii, self.ij, self.ik],
+            1 => [self.ij, self.jj, self.jk],
+            _ => [self.ik, self.jk, self.kk],
         }
     }
 }
 
-// The corners of a triangle.
-#[derive(Clone, Copy)]
-pub struct Triangle {
-    pub i: u32,
-    pub j: u32,
-    pub k: u32,
-}
-
 // A mesh that is assembled: x and y of each vertex, three corners of each triangle, a tag of each vertex, and twice the area in magnitude below which a triangle is skipped.
-// No ghost field says that the lists are those of a mesh: `vertex`, `triangle` and `stiff` ask only of what they read, and what needs the whole asks for `AreElements`.
+// No `mesh::Mesh`: that one has neighbours, and its ghost field says what those are, too, which `assemble` would then ask of its callers; and a Mesh with these three lists as a struct within would put one more name before each list that a definition or a function reads.
+// No ghost field says that the lists are those of a mesh (`AreElements`, in three contracts and four records): `vertex`, `triangle` and `stiff` ask less, so each would stand a second time, as a function of lists, for a caller who has no whole mesh.
 #[derive(Clone, Copy)]
 pub struct Elements<'a> {
     pub vertices: &'a [f64],
@@ -109,25 +89,22 @@ impl Elements<'_> {
     // Triangle q.
     pub fn triangle(&self, q: usize) -> Triangle
         requires { 3 * q + 2 < length self.now.triangles.now }
-        ensures { result ≡ Element.triangle_of self.now.triangles.now q }
+        ensures is { result ≡ Element.triangle_of self.now.triangles.now q }
+        ensures below { (n : ℕ) → AllBelow n self.now.triangles.now → AllBelow n result }
     {
-        let at = 3 * q;
-        Triangle {
-            i: self.triangles[at],
-            j: self.triangles[at + 1],
-            k: self.triangles[at + 2],
-        }
+        let (triangles, _) = self.triangles.as_chunks::<3>();
+        triangles[q]
     }
 
     // What the corners of a triangle push on each other.
-    #[tactic(auto, unfolding(crate::specs::Element::stiff_in))]
+    #[tactic(auto, unfolding(crate::specs::Element::stiff_in), using(crate::proofs::LawsCorners::below_at))]
     pub fn stiff(&self, q: Triangle) -> Option<Stiff>
-        requires { (length self.now.vertices.now ≡ 2 * length self.now.tags.now) × Element.Within (length self.now.tags.now) q }
+        requires { (length self.now.vertices.now ≡ 2 * length self.now.tags.now) × AllBelow (length self.now.tags.now) q }
         ensures { result ≡ Element.stiff_in self.now.flat self.now.vertices.now q }
     {
-        let a = self.vertex(q.i as usize);
-        let b = self.vertex(q.j as usize);
-        let c = self.vertex(q.k as usize);
+        let a = self.vertex(q[0] as usize);
+        let b = self.vertex(q[1] as usize);
+        let c = self.vertex(q[2] as usize);
         stiff_of(self.flat, a, b, c)
     }
 }

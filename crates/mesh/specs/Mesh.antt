@@ -1,6 +1,6 @@
 -- A mesh by its flat lists, as the sheet and the run's work hold them: vertices x, y; triangles three corners each; neighbours one for each edge; a tag for each vertex.
 -- Edge e joins corner e and corner (e + 1) mod 3 (document 01, Sheet). Definitions only. Assumes nothing.
-use Rattle.std.specs.Prelude.{ℕ, ◌+◌, ◌*◌, ◌/◌, ◌%◌, Bool, not, List, eqb, get_or, length, Option, Some, None, Float}
+use Rattle.std.specs.Prelude.{ℕ, ◌+◌, ◌*◌, ◌/◌, ◌%◌, Bool, not, List, [], ◌∷◌, eqb, get_or, length, Option, Some, None, Float}
 use Rattle.std.specs.Float.{nan}
 use Rattle.binary64.specs.Constants.{plus_zero, one}
 use Rattle.binary64.specs.Number.{pick}
@@ -13,6 +13,16 @@ vertex vs i = point (get_or vs (2 * i) nan) (get_or vs (2 * i + 1) nan)
 -- the vertex number at corner e of triangle t, and the word of its edge e's neighbour
 unfoldable pub corner : List ℕ → ℕ → ℕ → ℕ
 corner ts t e = get_or ts (3 * t + e) 0
+
+-- its three corners: the vertex numbers, the vertices, and the values of a field at them
+abbrev pub triangle : List ℕ → ℕ → List ℕ
+triangle ts t = corner ts t 0 ∷ corner ts t 1 ∷ corner ts t 2 ∷ []
+
+abbrev pub corners : List Float → List ℕ → ℕ → List Point
+corners vs ts t = vertex vs (corner ts t 0) ∷ vertex vs (corner ts t 1) ∷ vertex vs (corner ts t 2) ∷ []
+
+abbrev pub values : List Float → List ℕ → ℕ → List Float
+values us ts t = get_or us (corner ts t 0) nan ∷ get_or us (corner ts t 1) nan ∷ get_or us (corner ts t 2) nan ∷ []
 
 unfoldable pub neighbour : List ℕ → ℕ → ℕ → ℕ
 neighbour ns t e = get_or ns (3 * t + e) 0

@@ -43,6 +43,10 @@ neighbours_of words m = part words m.neighbours (3 * m.t)
 unfoldable pub tags_of : List ℕ → MeshAt → List ℕ
 tags_of words m = part words m.tags m.n
 
+-- the values of a field that start at u
+unfoldable pub field_of : List Float → MeshAt → ℕ → List Float
+field_of floats m u = part floats u m.n
+
 -- ---- what is asked of it
 
 -- each number of a list is below n
@@ -67,6 +71,11 @@ pub record Linked (words : List ℕ) (m : MeshAt) : Type 0 where
 pub record Meshed (floats : List Float) (words : List ℕ) (m : MeshAt) : Type 0 where
   pub linked : Linked words m
   pub vertices_fit : m.vertices + 2 * m.n ≤ length floats
+
+-- and of a field on it, whose n numbers start at u
+pub record Fielded (floats : List Float) (words : List ℕ) (m : MeshAt) (u : ℕ) : Type 0 where
+  pub meshed : Meshed floats words m
+  pub field_fits : u + m.n ≤ length floats
 
 -- ---- what an accessor answers
 

@@ -9,7 +9,7 @@ use Rattle.plane.specs.Plane.{point}
 use Rattle.stretch.specs.StretchLaws.{length_part, get_d_part}
 use Rattle.mesh.specs.Mesh.{vertex, corner, neighbour, tag_of, no_neighbour, triangle_of, triangle_count}
 use Rattle.mesh.specs.Pair.{pair_read}
-use Rattle.mesh.specs.Work.{vertices_of, triangles_of, neighbours_of, tags_of, MeshAt, IsMesh, Linked, Meshed}
+use Rattle.mesh.specs.Work.{vertices_of, triangles_of, neighbours_of, tags_of, MeshAt, IsMesh, Linked, Meshed, Corner}
 
 -- ---- the lists' lengths
 
@@ -58,6 +58,13 @@ neighbour-read words m t e h k = sym (get_d_part words m.neighbours (3 * m.t) (3
 pub tag_read : (words : List ℕ) (m : MeshAt) (i : ℕ) → i < m.n → get_or words (m.tags + i) 0 ≡ tag_of (tags_of words m) i
 unfolding tag_of tags_of
 tag_read words m i h = sym (get_d_part words m.tags m.n i 0 h)
+
+-- a corner that was read, with its bound
+pub corner_answer : {words : List ℕ} {m : MeshAt} {t e r : ℕ} → Linked words m → t < m.t → e < 3 → r ≡ get_or words (m.triangles + (3 * t + e)) 0 → Corner r m.n (corner (triangles_of words m) t e)
+corner_answer {words} {m} {t} {e} l h k p =
+    let q = p ∙ corner-read words m t e h k in
+    let b = corner_below l t e h k in
+    record { is = q; below = omega (arith, q, b) }
 
 -- the vertices' buffer may change, as long as it is as long
 pub meshed_as_long : {floats floats' : List Float} {words : List ℕ} {m : MeshAt} → Meshed floats words m → length floats' ≡ length floats → Meshed floats' words m

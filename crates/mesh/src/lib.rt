@@ -1,10 +1,18 @@
-// A mesh: vertices, triangles, neighbours and tags, each a slice. Neighbours and tags are words as the lists hold them, and a word that is an index is widened by `as usize`.
+// A mesh: vertices, triangles, neighbours and tags, each a slice. Neighbours and tags are words as the lists hold them, and a word that is an index is widened by `as usize`: no `From` leads from u32 to usize.
+// The lists are flat, with triangle t's numbers from `3 * t` on and vertex i's from `2 * i` on, and no slices of arrays: the definitions speak of flat lists, and the sheet numbers an edge by `3 * t + e`.
 #![tactic(auto)]
 
-ghost use Rattle.std.specs.Prelude.{◌≡◌, ◌+◌, ◌*◌, ◌<◌, ◌≤◌, length};
+ghost use Rattle.std.specs.Prelude.{ℕ, ◌≡◌, ◌+◌, ◌*◌, ◌<◌, ◌≤◌, length, get_or};
+ghost use Rattle.std.specs.Float.{nan};
+ghost use Rattle.plane.specs.Plane.{point};
 ghost use Rattle.mesh.specs.Mesh as Lists;
-ghost use Rattle.mesh.specs.Work.{IsMesh, Corner};
+ghost use Rattle.mesh.specs.Work.{IsMesh, Corner, Below};
 
+mod edge;
+mod field;
+
+pub use edge::Edge;
+pub use field::Field;
 use plane::Point;
 
 // x and y of each vertex; the three corners of each triangle; the neighbour over each edge, or none; the tag of each vertex.
@@ -18,7 +26,7 @@ pub struct Mesh<'a> {
 }
 
 // The word of an edge with no neighbour, a number of the sheet and of the lent words: −1, as the bits of an i32.
-const NONE: u32 = 4294967295;
+pub const NONE: u32 = 4294967295;
 
 // The tags, numbers of the sheet and of the lent words. Of a free vertex:
 pub const FREE: u32 = 0;
@@ -57,16 +65,26 @@ impl Slope {
     }
 }
 
+// ---- what is read of a list by itself: each asks of its own list alone, for whoever has no whole mesh; the methods call them
+
+// Point i of a list that holds x and y of each: vertices, or gradients.
+pub fn point_in(list: &[f64], i: usize) -> Point
+    requires { 2 * i + 1 < length list.now }
+    ensures { result ≡ point (get_or list.now (2 * i) nan) (get_or list.now (2 * i + 1) nan) }
+{
+    Point {
+        x: list[2 * i],
+        y: list[2 * i + 1],
+    }
+}
+
 // Vertex i of a list of vertices.
 #[tactic(auto, unfolding(crate::specs::Mesh::vertex))]
 pub fn vertex(vertices: &[f64], i: usize) -> Point
     requires { 2 * i + 1 < length vertices.now }
     ensures { result ≡ Lists.vertex vertices.now i }
 {
-    Point {
-        x: vertices[2 * i],
-        y: vertices[2 * i + 1],
-    }
+    point_in(vertices, i)
 }
 
 // The tag of vertex i in a list of tags.
@@ -78,8 +96,39 @@ pub fn tag(tags: &[u32], i: usize) -> u32
     tags[i]
 }
 
-// A triangle's number and the number of an edge or corner are two parameters: in a struct they would be put together for each call, and asked for the same bounds. What reads the corners and
-// what reads the neighbours is one expression each.
+// The vertex number at corner e of triangle t in a list of triangles.
+#[tactic(auto, unfolding(crate::specs::Mesh::corner))]
+pub fn corner(triangles: &[u32], t: usize, e: usize) -> usize
+    requires { 3 * t + e < length triangles.now }
+    ensures is { result ≡ Lists.corner triangles.now t e }
+    ensures below { (n : ℕ) → Below n triangles.now → result < n }
+{
+    triangles[3 * t + e] as usize
+}
+
+// The word of the neighbour over edge e of triangle t in a list of neighbours.
+#[tactic(auto, unfolding(crate::specs::Mesh::neighbour))]
+pub fn neighbour_word(neighbours: &[u32], t: usize, e: usize) -> u32
+    requires { 3 * t + e < length neighbours.now }
+    ensures { result ≡ Lists.neighbour neighbours.now t e }
+{
+    neighbours[3 * t + e]
+}
+
+// The triangle over edge e of triangle t in a list of neighbours.
+pub fn neighbour(neighbours: &[u32], t: usize, e: usize) -> Option<usize>
+    requires { 3 * t + e < length neighbours.now }
+    ensures { result ≡ Lists.triangle_of (Lists.neighbour neighbours.now t e) }
+{
+    let word = neighbour_word(neighbours, t, e);
+    if word == NONE {
+        return None;
+    }
+    Some(word as usize)
+}
+
+// `t < triangle_count` stands in each contract of a triangle. A struct of a mesh, a number and this bound as a ghost field was tried in starts: its methods prove, but a search makes one in its closure,
+// which then needs a `requires` with the same bound, while without the struct the check finds it. `of` takes buffers and counts as a run has them, the buffers whole (`Laid` of work).
 impl<'a> Mesh<'a> {
     ghost use Rattle.mesh.specs.Work.{Meshed, first_at};
     ghost use Rattle.mesh.specs.Stands.{Stands};
@@ -117,55 +166,65 @@ impl<'a> Mesh<'a> {
     }
 
     // The vertex number at corner e of triangle t.
-    pub fn corner(&self, t: usize, e: usize) -> usize
-        requires { (t < Lists.triangle_count self.now.triangles.now) × (e < 3) }
-        ensures { Corner result (length self.now.tags.now) (Lists.corner self.now.triangles.now t e) }
+    pub fn corner(&self, t: usize, e: Edge) -> usize
+        requires { t < Lists.triangle_count self.now.triangles.now }
+        ensures { Corner result (length self.now.tags.now) (Lists.corner self.now.triangles.now t e.number) }
     {
-        self.triangles[3 * t + e] as usize
+        corner(self.triangles, t, e.number)
     }
 
     // The vertex at corner e of triangle t.
-    pub fn corner_point(&self, t: usize, e: usize) -> Point
-        requires { (t < Lists.triangle_count self.now.triangles.now) × (e < 3) }
-        ensures { result ≡ Lists.vertex self.now.vertices.now (Lists.corner self.now.triangles.now t e) }
+    pub fn corner_point(&self, t: usize, e: Edge) -> Point
+        requires { t < Lists.triangle_count self.now.triangles.now }
+        ensures { result ≡ Lists.vertex self.now.vertices.now (Lists.corner self.now.triangles.now t e.number) }
     {
         let i = self.corner(t, e);
         self.vertex(i)
     }
 
-    // The word of the neighbour at edge e of triangle t.
-    #[tactic(auto, unfolding(crate::specs::Mesh::neighbour))]
-    pub fn neighbour_word(&self, t: usize, e: usize) -> u32
-        requires { (t < Lists.triangle_count self.now.triangles.now) × (e < 3) }
-        ensures { result ≡ Lists.neighbour self.now.neighbours.now t e }
+    // The vertex numbers at the three corners of triangle t. Each crossing reads them, and an array's `map` would put its elements in an `IntoIter` first.
+    pub fn triangle(&self, t: usize) -> [usize; 3]
+        requires { t < Lists.triangle_count self.now.triangles.now }
+        ensures is { result ≡ Lists.triangle self.now.triangles.now t }
+        ensures below { Below (length self.now.tags.now) result }
     {
-        self.neighbours[3 * t + e]
+        let a = self.corner(t, Edge::of(0));
+        let b = self.corner(t, Edge::of(1));
+        let c = self.corner(t, Edge::of(2));
+        [a, b, c]
+    }
+
+    // The vertices at the three corners of triangle t.
+    pub fn corners(&self, t: usize) -> [Point; 3]
+        requires { t < Lists.triangle_count self.now.triangles.now }
+        ensures { result ≡ Lists.corners self.now.vertices.now self.now.triangles.now t }
+    {
+        // `map` over the numbers was tried: it asks that each turn may call the closure, and the check doesn't find the bound of a vertex number there.
+        let [a, b, c] = self.triangle(t);
+        [self.vertex(a), self.vertex(b), self.vertex(c)]
+    }
+
+    // The word of the neighbour at edge e of triangle t.
+    pub fn neighbour_word(&self, t: usize, e: Edge) -> u32
+        requires { t < Lists.triangle_count self.now.triangles.now }
+        ensures { result ≡ Lists.neighbour self.now.neighbours.now t e.number }
+    {
+        neighbour_word(self.neighbours, t, e.number)
     }
 
     // The triangle over edge e of triangle t.
-    pub fn neighbour(&self, t: usize, e: usize) -> Option<usize>
-        requires { (t < Lists.triangle_count self.now.triangles.now) × (e < 3) }
-        ensures { result ≡ Lists.triangle_of (Lists.neighbour self.now.neighbours.now t e) }
+    pub fn neighbour(&self, t: usize, e: Edge) -> Option<usize>
+        requires { t < Lists.triangle_count self.now.triangles.now }
+        ensures { result ≡ Lists.triangle_of (Lists.neighbour self.now.neighbours.now t e.number) }
     {
-        let word = self.neighbour_word(t, e);
-        if word == NONE {
-            return None;
-        }
-        Some(word as usize)
+        neighbour(self.neighbours, t, e.number)
     }
 
+    // The tag of vertex i, a word and no Option or enum: any word may stand in a sheet, and the definitions compare it with the constants above, as right does.
     pub fn tag(&self, i: usize) -> u32
         requires { i < length self.now.tags.now }
         ensures { result ≡ Lists.tag_of self.now.tags.now i }
     {
         tag(self.tags, i)
     }
-}
-
-// The corner at an edge's far end.
-pub fn onward(e: usize) -> usize
-    requires { e < 3 }
-    ensures { (result ≡ Lists.onward e) × (result < 3) }
-{
-    (e + 1) % 3
 }

@@ -1,5 +1,5 @@
 -- Laws of one pass: which one it is, and what each kind does to the counts, the ends and the triangle walked in. Assumes nothing.
-use Rattle.std.specs.Prelude.{ℕ, ◌+◌, ◌-◌, ◌*◌, ◌≤◌, ◌<◌, ◌≡◌, refl, ◌≢◌, Bool, true, false, not, List, [], ◌∷◌, ◌++◌, eqb, leb, ltb, length, Float, Option, Some, None}
+use Rattle.std.specs.Prelude.{ℕ, ◌+◌, ◌-◌, ◌*◌, ◌≤◌, ◌<◌, ◌≡◌, refl, ◌≢◌, Bool, true, false, not, List, [], ◌∷◌, ◌++◌, Ok, Err, eqb, leb, ltb, length, Float, Option, Some, None}
 use Rattle.std.proofs.Common.{arith, le_refl, sym, ap, append-nil, length-append, eqb-true, leb-false, ltb-false}
 use Rattle.std.proofs.lemmas.Bool.{eqb-false, not-true, not-false}
 use Rattle.binary64.specs.Number.{pick}
@@ -10,8 +10,10 @@ use Rattle.conjugate.specs.Solver.{Turn, halted, reached, moved}
 use Rattle.gradient.specs.Gradient.{gradients}
 use Rattle.pde.specs.Bounds.{StartIn, containing_in, pick_start_in}
 use Rattle.pde.specs.declared.Walk.{Walk}
-use Rattle.pde.specs.declared.Beyond.{Beyond}
-use Rattle.pde.specs.declared.Crossing.{Crossing}
+use Rattle.pde.specs.declared.Barrier.{Barrier}
+use Rattle.pde.specs.declared.Halt.{Halt}
+use Rattle.pde.specs.declared.Leaving.{Leaving}
+use Rattle.pde.specs.Outcome.{Beyond, Crossing}
 use Rattle.pde.specs.Start.{triangle_containing, pick_start, entry}
 use Rattle.pde.specs.Crossing.{crossing}
 use Rattle.pde.specs.PathLaws.{gone_points}
@@ -143,37 +145,37 @@ starting_elim P c us found lost = given c.start
 -- what holds of the walk after a crossing, by its ends: 1 and 2, 7, 3 to 5, or on with 6 or none
 pub walked_elim : (P : Walk → Type 0) (room : ℕ) (last : Bool) (w : Walk) (x : Crossing)
     → ((k : ℕ) → 0 < k → k ≤ 7 → P (ended w k))
-    → ((q : Point) (n : ℕ) (b : Beyond) → x ≡ Crossing.Leaves q n b → w.points + adds x ≤ room → P (gone last w q b (adds x)))
+    → ((l : Leaving) → x ≡ Ok l → w.points + adds x ≤ room → P (gone last w l.point l.beyond (adds x)))
     → P (walked room last w x)
 unfolding walked
-walked_elim P room last w Crossing.Dull stays goes = stays 1 (omega arith) (omega arith)
-walked_elim P room last w Crossing.Stuck stays goes = stays 2 (omega arith) (omega arith)
-walked_elim P room last w (Crossing.Leaves q n b) stays goes = go (ltb room (w.points + (n - 1 + closes b))) refl
+walked_elim P room last w (Err Halt.Dull) stays goes = stays 1 (omega arith) (omega arith)
+walked_elim P room last w (Err Halt.Stuck) stays goes = stays 2 (omega arith) (omega arith)
+walked_elim P room last w (Ok l) stays goes = go (ltb room (w.points + (l.pieces - 1 + closes l.beyond))) refl
   where
-    go : (t : Bool) → ltb room (w.points + (n - 1 + closes b)) ≡ t
-        → P (pick t (ended w 7) (gone last w q b (n - 1 + closes b)))
+    go : (t : Bool) → ltb room (w.points + (l.pieces - 1 + closes l.beyond)) ≡ t
+        → P (pick t (ended w 7) (gone last w l.point l.beyond (l.pieces - 1 + closes l.beyond)))
     go true e = stays 7 (omega arith) (omega arith)
-    go false e = goes q n b refl (ltb-false room (w.points + (n - 1 + closes b)) e)
+    go false e = goes l refl (ltb-false room (w.points + (l.pieces - 1 + closes l.beyond)) e)
 
 -- the last crossing has an end
 gone_last : (w : Walk) (q : Point) (b : Beyond) (k : ℕ) → (gone true w q b k).end ≢ 0
-gone_last w q Beyond.Border k = omega arith
-gone_last w q Beyond.Unnamed k = omega arith
-gone_last w q Beyond.Above k = omega arith
-gone_last w q (Beyond.Into t) k = omega arith
+gone_last w q (Err Barrier.Border) k = omega arith
+gone_last w q (Err Barrier.Unnamed) k = omega arith
+gone_last w q (Err Barrier.Above) k = omega arith
+gone_last w q (Ok t) k = omega arith
 
 pub walked_last : (room : ℕ) (w : Walk) (x : Crossing) → (walked room true w x).end ≢ 0
 walked_last room w x =
     walked_elim (λ (v : Walk). v.end ≢ 0) room true w x
     (λ (k : ℕ) (h : 0 < k) (m : k ≤ 7). omega arith)
-    (λ (q : Point) (n : ℕ) (b : Beyond) (e : x ≡ Crossing.Leaves q n b) (h : w.points + adds x ≤ room). gone_last w q b (adds x))
+    (λ (l : Leaving) (e : x ≡ Ok l) (h : w.points + adds x ≤ room). gone_last w l.point l.beyond (adds x))
 
 -- a crossing takes no point away
 pub walked_points : (room : ℕ) (last : Bool) (w : Walk) (x : Crossing) → w.points ≤ (walked room last w x).points
 walked_points room last w x =
     walked_elim (λ (v : Walk). w.points ≤ v.points) room last w x
     (λ (k : ℕ) (h : 0 < k) (m : k ≤ 7). le_refl w.points)
-    (λ (q : Point) (n : ℕ) (b : Beyond) (e : x ≡ Crossing.Leaves q n b) (h : w.points + adds x ≤ room). omega (arith, gone_points last w q b (adds x)))
+    (λ (l : Leaving) (e : x ≡ Ok l) (h : w.points + adds x ≤ room). omega (arith, gone_points last w l.point l.beyond (adds x)))
 
 -- a crossing that has no end is not the last, and counts
 pub crossing_on : (c : Task) (us : List Float) (t : Trail) → t.crossings < factor * triangle_count c → (crossing_pass c us t).walk.end ≡ 0
@@ -213,10 +215,10 @@ unfolding solving
 solving-end c f = solved-end c.limit f (Solver.pass flat (matrix_of c) c.tolerance f.solve)
 
 gone-end : (last : Bool) (w : Walk) (q : Point) (b : Beyond) (k : ℕ) → (gone last w q b k).end ≤ 9
-gone-end last w q Beyond.Border k = omega arith
-gone-end last w q Beyond.Unnamed k = omega arith
-gone-end last w q Beyond.Above k = omega arith
-gone-end last w q (Beyond.Into t) k = go last
+gone-end last w q (Err Barrier.Border) k = omega arith
+gone-end last w q (Err Barrier.Unnamed) k = omega arith
+gone-end last w q (Err Barrier.Above) k = omega arith
+gone-end last w q (Ok t) k = go last
   where
     go : (b : Bool) → pick {A = ℕ} b 6 0 ≤ 9
     go true = omega arith
@@ -227,7 +229,7 @@ unfolding crossing_pass crossed
 crossing-end c us t =
     walked_elim (λ (v : Walk). v.end ≤ 9) c.room last t.walk x
     (λ (k : ℕ) (h : 0 < k) (m : k ≤ 7). omega arith)
-    (λ (q : Point) (n : ℕ) (b : Beyond) (e : x ≡ Crossing.Leaves q n b) (h : t.walk.points + adds x ≤ c.room). gone-end last t.walk q b (adds x))
+    (λ (l : Leaving) (e : x ≡ Ok l) (h : t.walk.points + adds x ≤ c.room). gone-end last t.walk l.point l.beyond (adds x))
   where
     last : Bool
     last = eqb (t.crossings + 1) (factor * triangle_count c)

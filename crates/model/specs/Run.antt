@@ -15,7 +15,7 @@ use Rattle.conjugate.specs.Solver.{Solve, Turn, halted, reached, moved, begun}
 use Rattle.gradient.specs.Gradient.{gradients}
 use Rattle.pde.specs.declared.Rule.{Rule}
 use Rattle.pde.specs.declared.Walk.{Walk}
-use Rattle.pde.specs.declared.Crossing.{Crossing}
+use Rattle.pde.specs.Outcome.{Crossing}
 use Rattle.pde.specs.Start.{no_edge, triangle_containing, pick_start}
 use Rattle.pde.specs.Crossing.{crossing}
 use Rattle.pde.specs.Path.{ended, walked, added}

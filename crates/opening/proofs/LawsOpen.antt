@@ -1,56 +1,27 @@
--- Laws of the items of a sheet put one after the other into a lent buffer: before the first, a turn, and that all of a section are the list of the content.
+-- Laws of the items of a sheet put one after the other into a lent buffer: all of a section are the list of the content.
 -- Assumes nothing.
 use Prim.Native.Nat.{ℕ, zero, suc, ◌+◌, ◌-◌, ◌*◌, ◌≤◌, ◌<◌}
-use mathlib.Core.Path.{◌≡◌, refl, sym, ap, ◌∙◌}
-use mathlib.Core.List.{List, [], ◌∷◌, ◌++◌, append_assoc}
+use mathlib.Core.Path.{◌≡◌, sym, ap, ◌∙◌}
+use mathlib.Core.List.{List, [], ◌∷◌, ◌++◌}
 use native.Mathlib.Nat.{zero-add}
-use native.Mathlib.Numerals.{add-one}
 use native.Mathlib.Omega.{arith}
-use lib.ListN.{length, get_or, set, take, drop, length-append, length-drop}
+use lib.ListN.{length, get_or, take, drop, length-drop}
 use lib.Seq.{take_all}
 use Rattle.std.proofs.lemmas.List.{drop-drop, length-take-le}
 use lib.Ieee.{Float}
 use Rattle.binary64.specs.Constants.{plus_zero}
-use Rattle.plane.specs.declared.Point.{Point}
 use Rattle.stretch.specs.Stretch.{part, splice}
-use Rattle.stretch.specs.StretchLaws.{part_zero, part_all, part_add, part_cons, splice_nil, splice_is, length-splice}
-use Rattle.stretch.proofs.LoopLaws.{write_step}
+use Rattle.stretch.specs.StretchLaws.{part_zero, part_all, part_add, part_cons, splice_is, length-splice}
 use Rattle.format.specs.Content.{Content, vertex_count, triangle_count}
 use Rattle.format.specs.Sheet.{content_of}
 use Rattle.sheet.specs.declared.Header.{Header}
-use Rattle.sheet.specs.Items.{whole_in}
+use Rattle.sheet.specs.Items.{coordinate_in, whole_in}
 use Rattle.sheet.specs.Answer.{header_of}
-use Rattle.sheet.specs.ItemLaws.{vertex_item, corner_item, neighbour_item, tag_item}
+use Rattle.sheet.specs.ItemLaws.{coordinate_item, corner_item, neighbour_item, tag_item}
 use Rattle.model.specs.Task.{task_of, task}
-use Rattle.image.specs.Opening.{joined, vertex_read, number_read, tag_read, vertices_read, numbers_read, tags_read, Read, Loaded}
+use Rattle.image.specs.Opening.{joined, coordinate_read, coordinates_read, number_read, tag_read, numbers_read, tags_read, Read, Loaded}
 
 module _ {A : Type 0} where
-  joined-more : (f : ℕ → List A) (i : ℕ) → joined f (i + 1) ≡ joined f i ++ f i
-  unfolding joined
-  joined-more f i = rw add-one
-
-  length-joined : (w : ℕ) (f : ℕ → List A) → ((i : ℕ) → length (f i) ≡ w) → (k : ℕ) → length (joined f k) ≡ w * k
-  unfolding joined
-  length-joined w f h zero = omega arith
-  length-joined w f h (suc k) = length-append (joined f k) (f k) ∙ omega (arith, length-joined w f h k, h k)
-
-  -- ---- the loops
-
-  pub put_none : (s : List A) (at : ℕ) (f : ℕ → List A) → s ≡ splice s at (joined f 0)
-  unfolding joined
-  put_none s at f = sym (splice_nil s at)
-
-  -- items of two, from the front on
-  pub put_two : (s l : List A) (i : ℕ) (f g : ℕ → A) (v w : A) → v ≡ f i → w ≡ g i → l ≡ splice s 0 (joined (λ j. f j ∷ g j ∷ []) i)
-      → set (set l (2 * i) v) (2 * i + 1) w ≡ splice s 0 (joined (λ j. f j ∷ g j ∷ []) (i + 1))
-  put_two s l i f g v w e d p =
-      let new = joined (λ j. f j ∷ g j ∷ []) i in
-      let long : length new ≡ 2 * i = length-joined 2 (λ j. f j ∷ g j ∷ []) (λ j. refl) i in
-      let more : length (new ++ (v ∷ [])) ≡ 2 * i + 1 = length-append new (v ∷ []) ∙ omega arith in
-      let first : set l (0 + 2 * i) v ≡ splice s 0 (new ++ (v ∷ [])) = write_step s l 0 (2 * i) new v long p in
-      let second : set (set l (0 + 2 * i) v) (0 + (2 * i + 1)) w ≡ splice s 0 (new ++ (v ∷ []) ++ (w ∷ [])) = write_step s (set l (0 + 2 * i) v) 0 (2 * i + 1) (new ++ (v ∷ [])) w more first in
-      rw (joined-more (λ j. f j ∷ g j ∷ []) i, ← e, ← d) (rw (zero-add (2 * i), zero-add (2 * i + 1), append_assoc) at second)
-
   -- ---- what they are: a list of k times w elements, if each item is its w elements of it
 
   joined-front : (w : ℕ) (f : ℕ → List A) (l : List A) (k : ℕ) → ((i : ℕ) → i < k → f i ≡ part l (w * i) w) → (j : ℕ) → j ≤ k → joined f j ≡ part l 0 (w * j)
@@ -66,16 +37,13 @@ module _ {A : Type 0} where
   one_of : (l : List A) (i : ℕ) (d : A) → i < length l → part l (1 * i) 1 ≡ get_or l i d ∷ []
   one_of l i d h = let e : 1 * i ≡ i = omega arith in rw e (part_cons l i 0 d h ∙ rw part_zero)
 
-  two_of : (l : List A) (i : ℕ) (d : A) → 2 * i + 1 < length l → part l (2 * i) 2 ≡ get_or l (2 * i) d ∷ get_or l (2 * i + 1) d ∷ []
-  two_of l i d h = part_cons l (2 * i) 1 d (omega arith) ∙ rw (part_cons l (suc (2 * i)) 0 d (omega arith), part_zero, add-one (2 * i))
-
 -- a part that is put back stands at its place
 put_back : {A : Type 0} (s new : List A) (at end n : ℕ) → end ≡ at + n → end ≤ length s → length new ≡ n → take at s ++ (new ++ drop (end - at) (drop at s)) ≡ splice s at new
 put_back s new at end n d h e = let m : end - at ≡ n = omega arith in rw (m, drop-drop) (sym (splice_is s new at n e (omega arith)))
 
 -- the items that stand in turn
-items_are : (new : List ℕ) (f : ℕ → ℕ) (n : ℕ) → length new ≡ n → ((i : ℕ) → i < n → get_or new i 0 ≡ f i) → new ≡ joined (λ i. f i ∷ []) n
-items_are new f n e h = sym (joined_is 1 (λ i. f i ∷ []) new n (omega (arith, e)) (λ i k. ap (λ (x : ℕ). x ∷ []) (sym (h i k)) ∙ sym (one_of new i 0 (omega arith))))
+items_are : {A : Type 0} (new : List A) (f : ℕ → A) (none : A) (n : ℕ) → length new ≡ n → ((i : ℕ) → i < n → get_or new i none ≡ f i) → new ≡ joined (λ i. f i ∷ []) n
+items_are {A} new f none n e h = sym (joined_is 1 (λ i. f i ∷ []) new n (omega (arith, e)) (λ i k. ap (λ (x : A). x ∷ []) (sym (h i k)) ∙ sym (one_of new i none (omega arith))))
 
 -- ---- the sections of an accepted sheet
 
@@ -90,11 +58,11 @@ module _ (sheet : List ℕ) (h : Header) (read : Read sheet h) where
   abbrev c : Content
   c = content_of sheet
 
-  vertices_read_lem : vertices_read (from sheet h.vertices) h.n ≡ c.vertices
+  vertices_read_lem : coordinates_read (from sheet h.vertices) (2 * h.n) ≡ c.vertices
   vertices_read_lem =
       rw (read.is.header, from_is sheet (header_of c).vertices)
-      (joined_is 2 (vertex_read (drop (header_of c).vertices sheet)) c.vertices (vertex_count c) read.good.pairs
-      (λ i k. ap (λ (p : Point). p.x ∷ p.y ∷ []) (vertex_item sheet c read.is.parsed i k) ∙ sym (two_of c.vertices i plus_zero (omega (arith, read.good.pairs)))))
+      (joined_is 1 (coordinate_read (drop (header_of c).vertices sheet)) c.vertices (2 * vertex_count c) (omega (arith, read.good.pairs))
+      (λ k l. ap (λ (x : Float). x ∷ []) (coordinate_item sheet c read.is.parsed k l) ∙ sym (one_of c.vertices k plus_zero (omega (arith, read.good.pairs)))))
 
   triangles_read : numbers_read (from sheet h.triangles) (3 * h.t) ≡ c.triangles
   triangles_read =
@@ -114,8 +82,8 @@ module _ (sheet : List ℕ) (h : Header) (read : Read sheet h) where
       (joined_is 1 (tag_read (drop (header_of c).tags sheet)) c.tags (vertex_count c) (omega (arith, read.good.tagged))
       (λ i k. ap (λ (x : ℕ). x ∷ []) (tag_item sheet c read.is.parsed i k) ∙ sym (one_of c.tags i 0 (omega (arith, read.good.tagged)))))
 
-  -- so what the four loops leave is the mesh of the content's task
-  pub loaded : (floats floats' : List Float) (words words₁ words₂ words' : List ℕ) → floats' ≡ splice floats 0 (vertices_read (from sheet h.vertices) h.n)
+  -- so what the four sections leave is the mesh of the content's task
+  pub loaded : (floats floats' : List Float) (words words₁ words₂ words' : List ℕ) → floats' ≡ splice floats 0 (coordinates_read (from sheet h.vertices) (2 * h.n))
       → words₁ ≡ splice words 0 (numbers_read (from sheet h.triangles) (3 * h.t))
       → words₂ ≡ splice words₁ (3 * h.t) (numbers_read (from sheet h.neighbours) (3 * h.t))
       → words' ≡ splice words₂ (6 * h.t) (tags_read (from sheet h.tags) h.n)
@@ -128,8 +96,11 @@ module _ (sheet : List ℕ) (h : Header) (read : Read sheet h) where
         words_are = e3 ∙ rw (tags_read_lem, e2, neighbours_read, e1, triangles_read, t);
       }
 
-  -- the same, by the parts of the words that the items are put into
-  module _ (words corners edges kinds : List ℕ) where
+  -- the same, by the parts of the buffers that the items are put into
+  module _ (floats points : List Float) (words corners edges kinds : List ℕ) where
+    abbrev after_points : List Float
+    after_points = points ++ drop (2 * h.n) floats
+
     abbrev after_corners : List ℕ
     after_corners = corners ++ drop (3 * h.t) words
 
@@ -139,13 +110,18 @@ module _ (sheet : List ℕ) (h : Header) (read : Read sheet h) where
     abbrev after_kinds : List ℕ
     after_kinds = take (6 * h.t) after_edges ++ (kinds ++ drop (6 * h.t + h.n - 6 * h.t) (drop (6 * h.t) after_edges))
 
-    pub loaded_parts : (floats floats' : List Float) → floats' ≡ splice floats 0 (vertices_read (from sheet h.vertices) h.n) → 6 * h.t + h.n ≤ length words
-        → length corners ≡ length (take (3 * h.t) words) → length edges ≡ length (take (6 * h.t - 3 * h.t) (drop (3 * h.t) after_corners)) → length kinds ≡ length (take (6 * h.t + h.n - 6 * h.t) (drop (6 * h.t) after_edges))
+    pub loaded_parts : 2 * h.n ≤ length floats → 6 * h.t + h.n ≤ length words
+        → length points ≡ length (take (2 * h.n) floats) → length corners ≡ length (take (3 * h.t) words) → length edges ≡ length (take (6 * h.t - 3 * h.t) (drop (3 * h.t) after_corners)) → length kinds ≡ length (take (6 * h.t + h.n - 6 * h.t) (drop (6 * h.t) after_edges))
+        → ((i : ℕ) → i < length (take (2 * h.n) floats) → get_or points i plus_zero ≡ coordinate_in (from sheet h.vertices) i)
         → ((i : ℕ) → i < length (take (3 * h.t) words) → get_or corners i 0 ≡ whole_in (from sheet h.triangles) i)
         → ((i : ℕ) → i < length (take (6 * h.t - 3 * h.t) (drop (3 * h.t) after_corners)) → get_or edges i 0 ≡ whole_in (from sheet h.neighbours) i)
         → ((i : ℕ) → i < length (take (6 * h.t + h.n - 6 * h.t) (drop (6 * h.t) after_edges)) → get_or kinds i 0 ≡ get_or (from sheet h.tags) i 0)
-        → Loaded (task c) floats words floats' after_kinds
-    loaded_parts floats floats' ev fits l1 l2 l3 g1 g2 g3 =
+        → Loaded (task c) floats words after_points after_kinds
+    loaded_parts room fits l0 l1 l2 l3 g0 g1 g2 g3 =
+        let k0 : length points ≡ 2 * h.n = l0 ∙ length-take-le (2 * h.n) floats (omega arith) in
+        let e0 : after_points ≡ splice floats 0 points = rw zero-add at (sym (splice_is floats points 0 (2 * h.n) k0 (omega arith))) in
+        let p0 : splice floats 0 points ≡ splice floats 0 (coordinates_read (from sheet h.vertices) (2 * h.n)) =
+        ap (splice floats 0) (items_are points (coordinate_in (from sheet h.vertices)) plus_zero (2 * h.n) k0 (λ i k. g0 i (omega arith))) in
         let w₁ = splice words 0 corners in
         let w₂ = splice w₁ (3 * h.t) edges in
         let k1 : length corners ≡ 3 * h.t = l1 ∙ length-take-le (3 * h.t) words (omega arith) in
@@ -160,9 +136,9 @@ module _ (sheet : List ℕ) (h : Header) (read : Read sheet h) where
         let e3 : after_kinds ≡ splice w₂ (6 * h.t) kinds =
         put_back after_edges kinds (6 * h.t) (6 * h.t + h.n) h.n (omega arith) (omega arith) k3 ∙ ap (λ (w : List ℕ). splice w (6 * h.t) kinds) e2 in
         let p1 : w₁ ≡ splice words 0 (numbers_read (from sheet h.triangles) (3 * h.t)) =
-        ap (splice words 0) (items_are corners (whole_in (from sheet h.triangles)) (3 * h.t) k1 (λ i k. g1 i (omega arith))) in
+        ap (splice words 0) (items_are corners (whole_in (from sheet h.triangles)) 0 (3 * h.t) k1 (λ i k. g1 i (omega arith))) in
         let p2 : w₂ ≡ splice w₁ (3 * h.t) (numbers_read (from sheet h.neighbours) (3 * h.t)) =
-        ap (splice w₁ (3 * h.t)) (items_are edges (whole_in (from sheet h.neighbours)) (3 * h.t) k2 (λ i k. g2 i (omega arith))) in
+        ap (splice w₁ (3 * h.t)) (items_are edges (whole_in (from sheet h.neighbours)) 0 (3 * h.t) k2 (λ i k. g2 i (omega arith))) in
         let p3 : splice w₂ (6 * h.t) kinds ≡ splice w₂ (6 * h.t) (tags_read (from sheet h.tags) h.n) =
-        ap (splice w₂ (6 * h.t)) (items_are kinds (λ (i : ℕ). get_or (from sheet h.tags) i 0) h.n k3 (λ i k. g3 i (omega arith))) in
-        loaded floats floats' words w₁ w₂ after_kinds ev p1 p2 (e3 ∙ p3)
+        ap (splice w₂ (6 * h.t)) (items_are kinds (λ (i : ℕ). get_or (from sheet h.tags) i 0) 0 h.n k3 (λ i k. g3 i (omega arith))) in
+        loaded floats after_points words w₁ w₂ after_kinds (e0 ∙ p0) p1 p2 (e3 ∙ p3)

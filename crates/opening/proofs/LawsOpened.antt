@@ -26,7 +26,7 @@ use Rattle.model.specs.Task.{Task, vertex_count, triangle_count}
 use Rattle.model.specs.Run.{place0, matrix_of, right_of}
 use Rattle.model.specs.Sized.{Sized, Vectors}
 use Rattle.model.proofs.SizeLaws.{matrix-length, right_length, begun_vectors}
-use Rattle.work.specs.Layout.{at_right, at_row, at_values, at_gradients, at_norms, at_neighbours, at_tags, at_starts, at_columns, at_heads, at_links, at_row_columns}
+use Rattle.work.specs.Layout.{at_right, at_row, at_values, at_gradients, at_norms, at_neighbours, at_tags, at_starts, at_columns, at_heads, at_links, at_row_columns, places_at}
 use Rattle.work.specs.Memory.{begun_again}
 use Rattle.image.specs.Image.{plan_of, floats_of, words_of, floats_used, words_used}
 use Rattle.image.proofs.ImageLawsLengths.{length_kept_values, length_kept_columns, length_row_starts}
@@ -34,7 +34,7 @@ use Rattle.image.proofs.ImageLawsPadded.{padded_nil, padded-more}
 use Rattle.image.proofs.ImageLawsRead.{matrix-read}
 use Rattle.image.proofs.ImageLawsSegments.{zeros, segments, Laid, laid_x, laid_r, laid_p, laid_product, laid_gradients, part_right, part_values, put_x, put_r, put_p, put_product, put_norms}
 use Rattle.image.proofs.ImageLawsSound.{below_each}
-use Rattle.image.specs.Opening.{mesh_floats, mesh_words, places_at, assembled_floats, LaidOut, none_kept, begun_floats}
+use Rattle.image.specs.Opening.{mesh_floats, mesh_words, assembled_floats, LaidOut, none_kept, begun_floats}
 
 -- ---- a list cut into segments of given lengths, and what is left
 

@@ -37,7 +37,7 @@ use Rattle.model.proofs.SizeLaws.{sized}
 use Rattle.model.specs.Machine.{needs}
 use Rattle.work.specs.declared.Plan.{Plan}
 use Rattle.work.specs.declared.Run.{Run}
-use Rattle.work.specs.Layout.{at_gradients, at_norms, matrix_at, vectors_at}
+use Rattle.work.specs.Layout.{at_gradients, at_norms, matrix_at, vectors_at, places_at}
 use Rattle.work.specs.Memory.{begun_again}
 use Rattle.work.specs.Record.{new_run, no_run}
 use Rattle.refusal.specs.declared.Refusal.{Refusal}
@@ -54,7 +54,7 @@ use Rattle.image.proofs.ImageLawsLengths.{length_words}
 use Rattle.image.proofs.ImageLawsPadded.{padded_nil}
 use Rattle.image.proofs.ImageLawsSound.{words_sound_lem}
 use Rattle.image.proofs.ListTheorem.{counted}
-use Rattle.image.specs.Opening.{plan_by, places_at, Read, Fits, Loaded, LaidOut, Begins, none_kept, begun_floats, Begun, lacks, Suffices, Stands}
+use Rattle.image.specs.Opening.{plan_by, Read, Fits, Loaded, LaidOut, Begins, none_kept, begun_floats, Begun, lacks, Suffices, Stands}
 use Rattle.image.specs.Replay.{Opens}
 use Rattle.image.proofs.ReplayLaws.{opens_refused, opens_short, opens_open}
 use Rattle.image.specs.Shown.{lengths_of}
@@ -93,7 +93,10 @@ suffices_by read q = record { read = read; plan_is = q.0; space = q.1 }
 -- ---- the assembly of what was loaded
 
 module _ (sheet : List ℕ) (h : Header) (read : Read sheet h) (floats : List Float) (words : List ℕ) (fits : Fits h (length floats) (length words)) (floats₁ : List Float) (words₁ : List ℕ)
-    (l : Loaded (task (content_of sheet)) floats words floats₁ words₁) (places : Places) (e : places ≡ places_at h.n h.t) where
+    (l : Loaded (task (content_of sheet)) floats words floats₁ words₁) (places : Places) (plan : Plan) (ep : plan ≡ plan_by h) (ea : places ≡ places_at plan.n plan.t) where
+  e : places ≡ places_at h.n h.t
+  e = rw ep at ea
+
   abbrev mesh : Task
   mesh = task (content_of sheet)
 

@@ -16,11 +16,10 @@ ghost use Rattle.image.specs.Opening as Opening;
 ghost use Rattle.image.specs.Replay.{Opens};
 ghost use Rattle.image.specs.Shown.{lengths_of};
 
-use laplace::Places;
 use plane::Point;
 use refusal::Refusal;
 use sheet::Header;
-use work::{Plan, Run};
+use work::{Counted, Plan, Run};
 
 // ---- the settings
 
@@ -31,7 +30,7 @@ fn start_of(x: Option<f64>, y: Option<f64>) -> Option<Point>
     x.zip(y).map(|(x, y)| Point { x, y })
 }
 
-// The counts and settings of an accepted sheet, with what an absent setting means; `as usize`: a u32 is no `Into<usize>`.
+// The counts and settings of an accepted sheet, with what an absent setting means. No `From`: both types stand in other crates. `as usize`: a u32 is no `Into<usize>`.
 fn plan_of(h: Header) -> Plan
     ensures { result ≡ Opening.plan_by h }
 {
@@ -49,23 +48,11 @@ fn plan_of(h: Header) -> Plan
 
 // ---- the sections, each through the part of the sheet that starts after its count
 
-// n vertices, at the front of the floats. By index: of a slice whose pairs a loop lends, only the length is known afterwards.
-fn put_vertices(floats: &mut [f64], part: &[u8], n: usize)
-    requires { 2 * n ≤ length floats.old }
-    ensures { floats.new ≡ splice floats.old 0 (Opening.vertices_read part.now n) }
-{
-    for i in 0..n {
-        let p = sheet::items::vertex(part, i);
-        floats[2 * i] = p.x;
-        floats[2 * i + 1] = p.y;
-    }
-}
-
 // What `item` gives for 0, 1 and so on, at the places in turn.
-fn put_items<F: Fn(usize) -> u32>(places: &mut [u32], item: F)
+fn put_items<T: Copy, F: Fn(usize) -> T>(places: &mut [T], item: F)
     requires { F.IsAlwaysCallable item }
     ensures long { length places.new ≡ length places.old }
-    ensures given { (i : ℕ) → i < length places.old → F.post item i (get_or places.new i 0) }
+    ensures given { (none : T) → (i : ℕ) → i < length places.old → F.post item i (get_or places.new i none) }
 {
     for (i, place) in places.iter_mut().enumerate() {
         *place = item(i);
@@ -74,40 +61,21 @@ fn put_items<F: Fn(usize) -> u32>(places: &mut [u32], item: F)
 
 // ---- the matrix, the right side and place 0
 
-// The places of work's layout, as `assemble` asks for them. Offsets, since both buffers are lent whole: no heap, and one order of lists in each.
-fn places_at(n: usize, t: usize) -> Places
-    requires { (n ≤ 4096) × (t ≤ 8192) }
-    ensures { result ≡ Opening.places_at n t }
-{
-    Places {
-        vertices: 0,
-        right: 2 * n,
-        row: 3 * n,
-        values: 4 * n,
-        triangles: 0,
-        tags: 6 * t,
-        starts: n + 6 * t,
-        cols: 2 * n + 6 * t + 1,
-        heads: 3 * n + 15 * t + 1,
-        links: 4 * n + 15 * t + 1,
-        rowcols: 4 * n + 18 * t + 1,
-    }
-}
-
 // Place 0 of the field: no gradients, nothing kept, the vectors begun, and the first norm. Answers r·r.
-fn begin(plan: Plan, floats: &mut [f64], words: &[u32]) -> f64
-    requires { Opening.Begins plan words.now (length floats.old) }
-    ensures { Opening.Begun plan words.now floats.old result floats.new }
+fn begin(counted: Counted, floats: &mut [f64], words: &[u32]) -> f64
+    requires { Opening.Begins counted.plan words.now (length floats.old) }
+    ensures { Opening.Begun counted.plan words.now floats.old result floats.new }
 {
-    let gradients = plan.at_gradients();
+    let plan = counted.plan;
+    let gradients = counted.at_gradients();
     stretch::fill(
         floats,
         gradients,
         2 * plan.t + (plan.limit + 1) + 3 * plan.n,
         0.0,
     );
-    let rs = work::vectors::begin(floats, words, plan);
-    let norms = plan.at_norms();
+    let rs = work::vectors::begin(floats, words, counted);
+    let norms = counted.at_norms();
     floats[norms] = root::sqrt(rs);
     rs
 }
@@ -124,7 +92,7 @@ struct Accepted<'a> {
 }
 
 impl<'a> Accepted<'a> {
-    // The mesh, at the front of the floats and of the words.
+    // The mesh, at the front of the floats and of the words: parts cut out of the lent buffers, one behind the other, since there is no heap. The ends are sums, and not by `Counted::places`: that has no place for the neighbours, and only the end of theirs, `tags`, would be read from it.
     #[tactic(auto, using(crate::proofs::LawsPlace::accepted_within))]
     fn load(&self, floats: &mut [f64], words: &mut [u32])
         requires { Opening.Fits self.now.header (length floats.old) (length words.old) }
@@ -133,7 +101,11 @@ impl<'a> Accepted<'a> {
         let h = self.header;
         let n = h.n;
         let t = h.t;
-        put_vertices(floats, &self.bytes[h.vertices..], n);
+        let vertices = &self.bytes[h.vertices..];
+        put_items(
+            &mut floats[..2 * n],
+            |k| sheet::items::coordinate(vertices, k),
+        );
         let triangles = &self.bytes[h.triangles..];
         put_items(&mut words[..3 * t], |i| sheet::items::corner(triangles, i));
         let neighbours = &self.bytes[h.neighbours..];
@@ -149,23 +121,29 @@ impl<'a> Accepted<'a> {
     }
 
     // The mesh, with its matrix and its right side.
-    fn lay_out(&self, floats: &mut [f64], words: &mut [u32])
-        requires { Opening.Fits self.now.header (length floats.old) (length words.old) }
+    fn lay_out(&self, counted: Counted, floats: &mut [f64], words: &mut [u32])
+        requires { (counted.plan ≡ Opening.plan_by self.now.header) × Opening.Fits self.now.header (length floats.old) (length words.old) }
         ensures { Opening.LaidOut (task (content_of self.now.bytes.now)) floats.old words.old floats.new words.new }
     {
         self.load(floats, words);
         let h = self.header;
-        let at = places_at(h.n, h.t);
-        assembly::assemble(floats, words, h.n, h.t, at, Run::TINY);
+        assembly::assemble(floats, words, h.n, h.t, counted.places(), Run::TINY);
     }
 
     // At place 0, in buffers that suffice.
-    fn place_zero(&self, plan: Plan, floats: &mut [f64], words: &mut [u32], path: &mut [f64]) -> Run
-        requires { (plan ≡ Opening.plan_by self.now.header) × Enough (needs (task (content_of self.now.bytes.now))) (lengths_of (buffers floats.old words.old path.old)) }
+    fn place_zero(
+        &self,
+        counted: Counted,
+        floats: &mut [f64],
+        words: &mut [u32],
+        path: &mut [f64],
+    ) -> Run
+        requires { (counted.plan ≡ Opening.plan_by self.now.header) × Enough (needs (task (content_of self.now.bytes.now))) (lengths_of (buffers floats.old words.old path.old)) }
         ensures { Opening.Stands (task (content_of self.now.bytes.now)) (buffers floats.old words.old path.old) result (buffers floats.new words.new path.new) }
     {
-        self.lay_out(floats, words);
-        let rs = begin(plan, floats, words);
+        self.lay_out(counted, floats, words);
+        let rs = begin(counted, floats, words);
+        let plan = counted.plan;
         stretch::fill(path, 0, 2 * plan.room, 0.0);
         Run::new(plan, rs)
     }
@@ -184,13 +162,14 @@ pub fn open(
 {
     let h = sheet::check_sheet(sheet)?;
     let plan = plan_of(h);
-    if plan.space().lacks(floats.len(), words.len(), path.len()) {
+    let counted = Counted { plan };
+    if counted.space().lacks(floats.len(), words.len(), path.len()) {
         return Err(Refusal::Space);
     }
     let accepted = Accepted {
         bytes: sheet,
         header: h,
     };
-    let run = accepted.place_zero(plan, floats, words, path);
+    let run = accepted.place_zero(counted, floats, words, path);
     Ok(run)
 }

@@ -1,5 +1,5 @@
 -- Where an answer points: its triangle is below the count and its edge below 3; and how far an exit is. Definitions, and the laws that the searches' answers are so. Assumes nothing.
-use Rattle.std.specs.Prelude.{◌≡◌, refl, Bool, true, false, ◌&&◌, Option, Some, None, IfSome, List, ℕ, zero, suc, ◌+◌, ◌≤◌, ◌<◌, eqb, Float}
+use Rattle.std.specs.Prelude.{◌≡◌, refl, Bool, true, false, ◌&&◌, Option, Some, None, IfSome, Ok, Err, IfOk, ok_or, List, ℕ, zero, suc, ◌+◌, ◌≤◌, ◌<◌, eqb, Float}
 use Rattle.std.proofs.Common.{subst, arith}
 use Rattle.std.proofs.lemmas.Bool.{eqb-false}
 use Rattle.std.specs.Float.Ieee.{lt}
@@ -10,13 +10,14 @@ use Rattle.mesh.specs.Mesh.{vertex, corner, neighbour, no_neighbour, onward}
 use Rattle.pde.specs.Search.{or_else, first_of}
 use Rattle.pde.specs.declared.Exit.{Exit}
 use Rattle.pde.specs.declared.Side.{Side}
-use Rattle.pde.specs.declared.Beyond.{Beyond}
-use Rattle.pde.specs.declared.Crossing.{Crossing}
+use Rattle.pde.specs.declared.Barrier.{Barrier}
+use Rattle.pde.specs.declared.Halt.{Halt}
 use Rattle.pde.specs.declared.Rule.{Rule}
 use Rattle.pde.specs.declared.Entry.{Entry}
+use Rattle.pde.specs.Outcome.{Beyond, Crossing}
 use Rattle.pde.specs.Start.{no_edge, entry, contains, contained_in, triangle_containing, is_inner, middle, inner_edge, inner_edge_of, first_inner, least_vertex, has, centroid, centroid_with, first_with, pick_start}
 use Rattle.pde.specs.Exit.{Nearest, distance, exit_at, side, is_cut, offered, considered, nearest_of, exit_edge, names_back, entry_edge, cut_edge, cut_edge_of, cut_triangle, cut_match, nearest}
-use Rattle.pde.specs.Crossing.{gradient_at, magnitude, direction, value_in, entering, entered, unentered, beyond, left, crossing_along, crossing}
+use Rattle.pde.specs.Crossing.{gradient_at, magnitude, direction, value_in, entering, entered, beyond, left, crossing_along, crossing}
 
 -- ---- where an answer points
 
@@ -30,15 +31,10 @@ abbrev pub ExitIn : Option Exit → Type 0
 ExitIn s = IfSome s (λ x. x.edge < 3)
 
 abbrev pub BeyondIn : ℕ → Beyond → Type 0
-BeyondIn n Beyond.Border = Unit
-BeyondIn n Beyond.Unnamed = Unit
-BeyondIn n Beyond.Above = Unit
-BeyondIn n (Beyond.Into s) = (s.triangle < n) × (s.edge < 3)
+BeyondIn n b = IfOk b (λ s. (s.triangle < n) × (s.edge < 3))
 
 abbrev pub CrossingIn : ℕ → Crossing → Type 0
-CrossingIn n Crossing.Dull = Unit
-CrossingIn n Crossing.Stuck = Unit
-CrossingIn n (Crossing.Leaves p k b) = BeyondIn n b
+CrossingIn n c = IfOk c (λ l. BeyondIn n l.beyond)
 
 -- what a match on such an answer tells
 pub some_in : {A : Type 0} (P : A → Type 0) {o : Option A} {a : A} → IfSome o P → o ≡ Some a → P a
@@ -152,14 +148,15 @@ cut_in ts ns n here e = side_in n _ n (λ t h. cut_triangle_in ts ns here _ _ n 
 
 -- ---- a crossing
 
-entering_in : (n : ℕ) (above : Float) (vs : List Float) (ts : List ℕ) (us : List Float) (p : Point) (s : Option Side) (other : Beyond) → SideIn n s → BeyondIn n other → BeyondIn n (entering above vs ts us p s other)
+entering_in : (n : ℕ) (above : Float) (vs : List Float) (ts : List ℕ) (us : List Float) (p : Point) (s : Option Side) (other : Barrier) → SideIn n s → BeyondIn n (entering above vs ts us p s other)
 unfolding entering
-entering_in n above vs ts us p (Some s) other h k = pick_in (BeyondIn n) (lt above (value_in vs ts us s.triangle p)) Beyond.Above (Beyond.Into s) (λ _. tt) (λ _. h)
-entering_in n above vs ts us p None other h k = k
+entering_in n above vs ts us p (Some s) other h = pick_in (BeyondIn n) (lt above (value_in vs ts us s.triangle p)) (Err Barrier.Above) (Ok s) (λ _. tt) (λ _. h)
+entering_in n above vs ts us p None other h = tt
 
-unentered_in : (n next : ℕ) → BeyondIn n (unentered next)
-unfolding unentered
-unentered_in n next = pick_in (BeyondIn n) (eqb next no_neighbour) Beyond.Border Beyond.Unnamed (λ _. tt) (λ _. tt)
+-- a side, or what is said where there is none
+pub ok_in : (n : ℕ) (s : Option Side) (other : Barrier) → SideIn n s → BeyondIn n (ok_or s other)
+ok_in n (Some s) other h = h
+ok_in n None other h = tt
 
 -- each neighbour is one of the n triangles, or none
 abbrev pub Neighbouring : List ℕ → ℕ → Type 0
@@ -172,7 +169,7 @@ entered_in ts ns n inside t e h k = pick_in (SideIn n) (eqb (neighbour ns t e) n
 module _ (rule : Rule) (vs : List Float) (ts ns : List ℕ) (n : ℕ) (us : List Float) (inside : Neighbouring ns n) where
   left_in : (pos : Point) (t : ℕ) (exit : Option Exit) → t < n → ExitIn exit → CrossingIn n (left rule vs ts ns n us pos t exit)
   unfolding beyond
-  left_in pos t (Some x) h k = entering_in n rule.above vs ts us x.point _ _ (entered_in ts ns n inside t x.edge h k) (unentered_in n _)
+  left_in pos t (Some x) h k = entering_in n rule.above vs ts us x.point _ _ (entered_in ts ns n inside t x.edge h k)
   left_in pos t None h k = tt
 
   pub along_in : (g : Point) (step : Float) (pos : Point) (t entry : ℕ) → t < n → CrossingIn n (crossing_along rule vs ts ns n us g step pos t entry)
@@ -180,7 +177,7 @@ module _ (rule : Rule) (vs : List Float) (ts ns : List ℕ) (n : ℕ) (us : List
   along_in g step pos t entry h =
       let mag = magnitude g in
       let exit = exit_edge rule.dull vs ts t pos (direction step g mag) entry in
-      pick_in (CrossingIn n) (lt mag rule.dull) Crossing.Dull (left rule vs ts ns n us pos t exit) (λ _. tt) (λ _. left_in pos t exit h (exit_in rule.dull vs ts t pos _ entry))
+      pick_in (CrossingIn n) (lt mag rule.dull) (Err Halt.Dull) (left rule vs ts ns n us pos t exit) (λ _. tt) (λ _. left_in pos t exit h (exit_in rule.dull vs ts t pos _ entry))
 
   pub crossing_in_lem : (gs : List Float) (step : Float) (pos : Point) (t entry : ℕ) → t < n → CrossingIn n (crossing rule vs ts ns n us gs step pos t entry)
   unfolding crossing

@@ -1,5 +1,5 @@
 -- One crossing of a triangle (mesh/pde.rs, the loop of `trace_spiral`; document 01, Crossing): along the level line turned outward by the step. Definitions only. Assumes nothing.
-use Rattle.std.specs.Prelude.{ℕ, ◌+◌, ◌*◌, List, Option, Some, None, eqb, get_or, Float}
+use Rattle.std.specs.Prelude.{ℕ, ◌+◌, ◌*◌, List, Option, Some, None, Ok, Err, eqb, get_or, Float}
 use Rattle.std.specs.Float.{nan, binary64}
 use Rattle.std.specs.Float.Ieee.{of_bits, neg, lt}
 use Rattle.binary64.specs.Arith.{◌⊕◌, ◌⊗◌, ◌⊘◌}
@@ -11,9 +11,10 @@ use Rattle.plane.specs.Plane.{point, interpolated}
 use Rattle.mesh.specs.Mesh.{vertex, corner, neighbour, no_neighbour}
 use Rattle.pde.specs.declared.Exit.{Exit}
 use Rattle.pde.specs.declared.Side.{Side}
-use Rattle.pde.specs.declared.Beyond.{Beyond}
-use Rattle.pde.specs.declared.Crossing.{Crossing}
+use Rattle.pde.specs.declared.Barrier.{Barrier}
+use Rattle.pde.specs.declared.Halt.{Halt}
 use Rattle.pde.specs.declared.Rule.{Rule}
+use Rattle.pde.specs.Outcome.{Beyond, Crossing}
 use Rattle.pde.specs.Exit.{distance, exit_edge, entry_edge, cut_match}
 
 -- PI (document 01, Stand-ins)
@@ -44,17 +45,17 @@ value_in vs ts us t p =
     interpolated p (vertex vs a) (vertex vs b) (vertex vs c) (get_or us a nan) (get_or us b nan) (get_or us c nan)
 
 -- into a side's triangle by its edge, unless the field at p is above the threshold there
-unfoldable pub entering : Float → List Float → List ℕ → List Float → Point → Option Side → Beyond → Beyond
-entering above vs ts us p (Some s) other = pick (lt above (value_in vs ts us s.triangle p)) Beyond.Above (Beyond.Into s)
-entering above vs ts us p None other = other
+unfoldable pub entering : Float → List Float → List ℕ → List Float → Point → Option Side → Barrier → Beyond
+entering above vs ts us p (Some s) other = pick (lt above (value_in vs ts us s.triangle p)) (Err Barrier.Above) (Ok s)
+entering above vs ts us p None other = Err other
 
 -- the edge that is entered beyond edge e of triangle t: over a cut edge, or the neighbour's edge that names us back
 unfoldable pub entered : List ℕ → List ℕ → ℕ → ℕ → ℕ → Option Side
 entered ts ns count t e = let next = neighbour ns t e in pick (eqb next no_neighbour) (cut_match ts ns count t e) (entry_edge ns next t)
 
 -- where none is: the border, or a neighbour that does not name us back
-unfoldable pub unentered : ℕ → Beyond
-unentered next = pick (eqb next no_neighbour) Beyond.Border Beyond.Unnamed
+unfoldable pub unentered : ℕ → Barrier
+unentered next = pick (eqb next no_neighbour) Barrier.Border Barrier.Unnamed
 
 -- beyond edge e of triangle t, left at p
 unfoldable pub beyond : Float → List Float → List ℕ → List ℕ → ℕ → List Float → ℕ → ℕ → Point → Beyond
@@ -65,14 +66,14 @@ unfoldable pub pieces : Float → Point → Point → ℕ
 pieces spacing p q = ceil_count (distance p q ⊘ spacing)
 
 abbrev pub left : Rule → List Float → List ℕ → List ℕ → ℕ → List Float → Point → ℕ → Option Exit → Crossing
-left rule vs ts ns count us pos t (Some x) = Crossing.Leaves x.point (pieces rule.spacing pos x.point) (beyond rule.above vs ts ns count us t x.edge x.point)
-left rule vs ts ns count us pos t None = Crossing.Stuck
+left rule vs ts ns count us pos t (Some x) = Ok (record { point = x.point; pieces = pieces rule.spacing pos x.point; beyond = beyond rule.above vs ts ns count us t x.edge x.point })
+left rule vs ts ns count us pos t None = Err Halt.Stuck
 
 -- what crossing triangle t from pos, entered by an edge, comes to where g is its gradient
 unfoldable pub crossing_along : Rule → List Float → List ℕ → List ℕ → ℕ → List Float → Point → Float → Point → ℕ → ℕ → Crossing
 crossing_along rule vs ts ns count us g step pos t entry =
     let mag = magnitude g in
-    pick (lt mag rule.dull) Crossing.Dull (left rule vs ts ns count us pos t (exit_edge rule.dull vs ts t pos (direction step g mag) entry))
+    pick (lt mag rule.dull) (Err Halt.Dull) (left rule vs ts ns count us pos t (exit_edge rule.dull vs ts t pos (direction step g mag) entry))
 
 -- the same where gs has the gradients of all triangles
 unfoldable pub crossing : Rule → List Float → List ℕ → List ℕ → ℕ → List Float → List Float → Float → Point → ℕ → ℕ → Crossing

@@ -2,10 +2,11 @@ pub mod Search
 pub mod SearchLaws
 pub mod Start
 pub mod Exit
+pub mod Outcome
+pub mod Standing
 pub mod Crossing
 pub mod Path
 pub mod Bounds
 pub mod Work
 pub mod PathLaws
-pub mod Stands
 pub mod StandsLaws

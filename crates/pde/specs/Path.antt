@@ -1,5 +1,5 @@
 -- The points of a crossing, their coordinates in a row, the room rule and the ends of the path (document 01, Crossing), and a path's length. Definitions only. Assumes nothing.
-use Rattle.std.specs.Prelude.{ℕ, zero, suc, ◌+◌, ◌-◌, Bool, List, [], ◌∷◌, ◌++◌, ltb, pos, Float}
+use Rattle.std.specs.Prelude.{ℕ, zero, suc, ◌+◌, ◌-◌, Bool, List, [], ◌∷◌, ◌++◌, Ok, Err, ltb, pos, Float}
 use Rattle.std.specs.Float.{binary64}
 use Rattle.std.specs.Float.Ieee.{of_int}
 use Rattle.binary64.specs.Arith.{◌⊕◌, ◌⊖◌, ◌⊗◌, ◌⊘◌}
@@ -7,9 +7,9 @@ use Rattle.binary64.specs.Constants.{plus_zero}
 use Rattle.binary64.specs.Number.{pick}
 use Rattle.plane.specs.declared.Point.{Point}
 use Rattle.plane.specs.Plane.{point}
-use Rattle.pde.specs.declared.Beyond.{Beyond}
-use Rattle.pde.specs.declared.Crossing.{Crossing}
+use Rattle.pde.specs.declared.Barrier.{Barrier}
 use Rattle.pde.specs.declared.Walk.{Walk}
+use Rattle.pde.specs.Outcome.{Beyond, Crossing, halt_number, barrier_number}
 use Rattle.pde.specs.Exit.{distance}
 
 -- ---- points as floats
@@ -42,16 +42,16 @@ between p q n k = along p (q.x ⊖ p.x) (q.y ⊖ p.y) n k
 
 -- the exit is put down by end 5 alone
 unfoldable pub closing : Point → Beyond → List Point
-closing q Beyond.Border = []
-closing q Beyond.Unnamed = []
-closing q Beyond.Above = q ∷ []
-closing q (Beyond.Into s) = []
+closing q (Err Barrier.Border) = []
+closing q (Err Barrier.Unnamed) = []
+closing q (Err Barrier.Above) = q ∷ []
+closing q (Ok s) = []
 
 abbrev pub closes : Beyond → ℕ
-closes Beyond.Border = 0
-closes Beyond.Unnamed = 0
-closes Beyond.Above = 1
-closes (Beyond.Into s) = 0
+closes (Err Barrier.Border) = 0
+closes (Err Barrier.Unnamed) = 0
+closes (Err Barrier.Above) = 1
+closes (Ok s) = 0
 
 -- ---- the path after a crossing
 
@@ -64,30 +64,25 @@ with_points w k e = record { position = w.position; triangle = w.triangle; edge 
 
 -- Ends 3, 4, 5; or on into the next triangle, with end 6 where this was the last crossing.
 abbrev pub gone : Bool → Walk → Point → Beyond → ℕ → Walk
-gone last w q Beyond.Border k = with_points w k 3
-gone last w q Beyond.Unnamed k = with_points w k 4
-gone last w q Beyond.Above k = with_points w k 5
-gone last w q (Beyond.Into s) k = record { position = q; triangle = s.triangle; edge = s.edge; points = w.points + k; end = pick last 6 0 }
+gone last w q (Err b) k = with_points w k (barrier_number b)
+gone last w q (Ok s) k = record { position = q; triangle = s.triangle; edge = s.edge; points = w.points + k; end = pick last 6 0 }
 
 -- how many points a crossing adds
 abbrev pub adds : Crossing → ℕ
-adds Crossing.Dull = 0
-adds Crossing.Stuck = 0
-adds (Crossing.Leaves q n b) = n - 1 + closes b
+adds (Err h) = 0
+adds (Ok l) = l.pieces - 1 + closes l.beyond
 
 -- its points, where they fit the room
 abbrev pub added : ℕ → Walk → Crossing → List Point
-added room w Crossing.Dull = []
-added room w Crossing.Stuck = []
-added room w (Crossing.Leaves q n b) = pick (ltb room (w.points + (n - 1 + closes b))) [] (between w.position q n (n - 1) ++ closing q b)
+added room w (Err h) = []
+added room w (Ok l) = pick (ltb room (w.points + (l.pieces - 1 + closes l.beyond))) [] (between w.position l.point l.pieces (l.pieces - 1) ++ closing l.point l.beyond)
 
 -- Ends 1 and 2; 7 where the points would bring the path above the room, with nothing else changed; else on.
 unfoldable pub walked : ℕ → Bool → Walk → Crossing → Walk
-walked room last w Crossing.Dull = ended w 1
-walked room last w Crossing.Stuck = ended w 2
-walked room last w (Crossing.Leaves q n b) =
-    let k = n - 1 + closes b in
-    pick (ltb room (w.points + k)) (ended w 7) (gone last w q b k)
+walked room last w (Err h) = ended w (halt_number h)
+walked room last w (Ok l) =
+    let k = l.pieces - 1 + closes l.beyond in
+    pick (ltb room (w.points + k)) (ended w 7) (gone last w l.point l.beyond k)
 
 -- ---- length
 

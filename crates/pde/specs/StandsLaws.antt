@@ -4,15 +4,14 @@ use Rattle.std.proofs.Common.{◌∙◌, ap}
 use Rattle.plane.specs.declared.Point.{Point}
 use Rattle.mesh.specs.declared.Mesh.{Mesh}
 use Rattle.mesh.specs.Mesh.{triangle_count}
-use Rattle.mesh.specs.Work.{MeshAt, Linked, vertices_of, triangles_of, neighbours_of, tags_of}
+use Rattle.mesh.specs.Work.{MeshAt, Linked, vertices_of, triangles_of, neighbours_of, tags_of, field_of}
 use Rattle.mesh.specs.WorkLaws.{length_triangles, count_of_thirds}
-use Rattle.mesh.specs.Stands.{Stands}
-use Rattle.pde.specs.declared.Field.{Field}
+use Rattle.mesh.specs.Stands.{Stands, FieldStands}
+use Rattle.mesh.specs.declared.field.Field.{Field}
 use Rattle.pde.specs.declared.Rule.{Rule}
 use Rattle.pde.specs.Crossing.{crossing_along}
 use Rattle.pde.specs.Start.{triangle_containing, pick_start}
-use Rattle.pde.specs.Work.{field_of, crossing_in}
-use Rattle.pde.specs.Stands.{FieldStands}
+use Rattle.pde.specs.Work.{crossing_in}
 
 pub triangles_count : {floats : List Float} {words : List ℕ} {at : MeshAt} {m : Mesh} → Linked words at → Stands floats words at m → triangle_count m.triangles.now ≡ at.t
 triangles_count {floats} {words} {at} l s = ap triangle_count s.triangles ∙ count_of_thirds (triangles_of words at) at.t (length_triangles l)

@@ -1,20 +1,12 @@
--- Where the field and the gradients stand among the floats, a crossing by a gradient of the field that stands there, and what it makes of the lent path. Definitions only. Assumes nothing.
-use Rattle.std.specs.Prelude.{List, ℕ, ◌+◌, ◌*◌, ◌≤◌, length, Float}
+-- Where the gradients stand among the floats, a crossing by a gradient of the field that stands there, and what it makes of the lent path. Definitions only. Assumes nothing.
+use Rattle.std.specs.Prelude.{List, ℕ, ◌*◌, ◌≤◌, length, Float}
 use Rattle.plane.specs.declared.Point.{Point}
 use Rattle.stretch.specs.Stretch.{part}
-use Rattle.mesh.specs.Work.{vertices_of, triangles_of, neighbours_of, MeshAt, Meshed}
+use Rattle.mesh.specs.Work.{vertices_of, triangles_of, neighbours_of, field_of, MeshAt}
 use Rattle.pde.specs.declared.Rule.{Rule}
-use Rattle.pde.specs.declared.Crossing.{Crossing}
 use Rattle.pde.specs.declared.Walk.{Walk}
+use Rattle.pde.specs.Outcome.{Crossing}
 use Rattle.pde.specs.Crossing.{crossing_along}
-
--- the field's n numbers start at u
-pub record Fielded (floats : List Float) (words : List ℕ) (m : MeshAt) (u : ℕ) : Type 0 where
-  pub meshed : Meshed floats words m
-  pub field_fits : u + m.n ≤ length floats
-
-unfoldable pub field_of : List Float → MeshAt → ℕ → List Float
-field_of floats m u = part floats u m.n
 
 unfoldable pub gradients_of : List Float → MeshAt → ℕ → List Float
 gradients_of floats m at = part floats at (2 * m.t)

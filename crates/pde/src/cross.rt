@@ -1,33 +1,28 @@
-// One crossing of a triangle: along the level line turned outward by the step. Of `t < triangle_count` and `e < 3` see edges.rt.
-ghost use Rattle.std.specs.Prelude.{◌≡◌, ◌+◌, ◌*◌, ◌<◌, length};
-ghost use Rattle.mesh.specs.Mesh.{triangle_count, neighbour, triangle_of};
-ghost use Rattle.pde.specs.Bounds.{SideIn};
+// One crossing of a triangle: along the level line turned outward by the step. Of `t < triangle_count` see edges.rt.
+ghost use Rattle.std.specs.Prelude.{◌≡◌, ◌+◌, ◌*◌, ◌<◌, length, ok_or};
+ghost use Rattle.mesh.specs.Mesh.{triangle_count, neighbour};
+ghost use Rattle.pde.specs.Bounds.{BeyondIn};
 ghost use Rattle.pde.specs.Crossing as Crossings;
 
-use super::{Beyond, Crossing, Entry, Exit, Field, Rule, Side, edges};
-use mesh::Mesh;
+use super::{Barrier, Beyond, Crossing, Entry, Exit, Halt, Leaving, Rule, edges};
+use mesh::{Edge, Field, Mesh};
 use plane::Point;
+use std::f64::consts::PI;
 
-// Bits 400921fb54442d18.
-const PI: f64 = 3.141592653589793;
-
-// The gradient of triangle t, of those of all triangles: a list with a definition of its own, as the vertices have theirs (`mesh::vertex`).
+// The gradient of triangle t, of those of all triangles: a list with a definition of its own, as the vertices have theirs (`mesh::vertex`); both are read by one function.
 #[tactic(auto, unfolding(crate::specs::Crossing::gradient_at))]
 pub fn gradient_at(gradients: &[f64], t: usize) -> Point
     requires { 2 * t + 1 < length gradients.now }
     ensures { result ≡ Crossings.gradient_at gradients.now t }
 {
-    Point {
-        x: gradients[2 * t],
-        y: gradients[2 * t + 1],
-    }
+    mesh::point_in(gradients, t)
 }
 
-#[tactic(auto, unfolding(crate::specs::Crossing::magnitude))]
+#[tactic(auto, unfolding(crate::specs::Crossing::magnitude, plane::specs::Plane::dot_of, plane::specs::Plane::length_squared))]
 fn magnitude(g: Point) -> f64
     ensures { result ≡ Crossings.magnitude g }
 {
-    root::sqrt(g.x * g.x + g.y * g.y)
+    root::sqrt(g.length_squared())
 }
 
 // The unit gradient turned a quarter, plus step · mag / 2π of the unit gradient.
@@ -44,83 +39,59 @@ fn direction(step: f64, g: Point, mag: f64) -> Point
     }
 }
 
-// The edge that is entered beyond edge e of triangle t: over a cut edge, or the neighbour's that names us back.
-fn entered(mesh: &Mesh, t: usize, e: usize) -> Option<Side>
-    requires { (t < triangle_count mesh.now.triangles.now) × (e < 3) }
-    ensures is { result ≡ Crossings.entered mesh.now.triangles.now mesh.now.neighbours.now (triangle_count mesh.now.triangles.now) t e }
-    ensures inside { SideIn (triangle_count mesh.now.triangles.now) result }
+// The edge that is entered beyond edge e of triangle t: over a cut edge, or the neighbour's that names us back; or the border, or a neighbour that does not name us back.
+fn entered(mesh: &Mesh, t: usize, e: Edge) -> Beyond
+    requires { t < triangle_count mesh.now.triangles.now }
+    ensures is { result ≡ ok_or (Crossings.entered mesh.now.triangles.now mesh.now.neighbours.now (triangle_count mesh.now.triangles.now) t e.number) (Crossings.unentered (neighbour mesh.now.neighbours.now t e.number)) }
+    ensures inside { BeyondIn (triangle_count mesh.now.triangles.now) result }
 {
     match mesh.neighbour(t, e) {
-        None => edges::find_cut_edge_match(mesh, t, e),
-        Some(next) => edges::entry_edge_of(mesh, next, t),
+        None => edges::find_cut_edge_match(mesh.triangles, mesh.neighbours, t, e).ok_or(
+            Barrier::Border,
+        ),
+        Some(next) => edges::entry_edge_of(mesh.neighbours, next, t).ok_or(Barrier::Unnamed),
     }
 }
 
-// Where no edge is entered: the border, or a neighbour that does not name us back.
-fn unentered(mesh: &Mesh, t: usize, e: usize) -> Beyond
-    requires { (t < triangle_count mesh.now.triangles.now) × (e < 3) }
-    ensures { result ≡ Crossings.unentered (neighbour mesh.now.neighbours.now t e) }
+// The field at p, interpolated in triangle t.
+#[tactic(auto, unfolding(crate::specs::Crossing::value_in))]
+fn value_in(field: &Field, t: usize, p: Point) -> f64
+    requires { t < triangle_count field.now.mesh.triangles.now }
+    ensures { result ≡ Crossings.value_in field.now.mesh.vertices.now field.now.mesh.triangles.now field.now.values.now t p }
 {
-    match mesh.neighbour(t, e) {
-        None => Beyond::Border,
-        Some(_) => Beyond::Unnamed,
-    }
+    let ([va, vb, vc], [ua, ub, uc]) = field.on(t);
+    plane::barycentric_interpolate(p, va, vb, vc, ua, ub, uc)
 }
 
-impl<'a> Field<'a> {
-    // The field at p, interpolated in triangle t.
-    #[tactic(auto, unfolding(crate::specs::Crossing::value_in))]
-    fn value_in(&self, t: usize, p: Point) -> f64
-        requires { t < triangle_count self.now.mesh.triangles.now }
-        ensures { result ≡ Crossings.value_in self.now.mesh.vertices.now self.now.mesh.triangles.now self.now.values.now t p }
-    {
-        let a = self.mesh.corner(t, 0);
-        let b = self.mesh.corner(t, 1);
-        let c = self.mesh.corner(t, 2);
-        let va = self.mesh.vertex(a);
-        let vb = self.mesh.vertex(b);
-        let vc = self.mesh.vertex(c);
-        plane::barycentric_interpolate(
-            p,
-            va,
-            vb,
-            vc,
-            self.values[a],
-            self.values[b],
-            self.values[c],
-        )
+// Beyond an edge of triangle t, left at an exit.
+#[tactic(auto, unfolding(crate::specs::Crossing::beyond, crate::specs::Crossing::entering))]
+fn beyond(field: &Field, above: f64, t: usize, exit: Exit) -> Beyond
+    requires { (t < triangle_count field.now.mesh.triangles.now) × (exit.edge < 3) }
+    ensures { result ≡ Crossings.beyond above field.now.mesh.vertices.now field.now.mesh.triangles.now field.now.mesh.neighbours.now (triangle_count field.now.mesh.triangles.now) field.now.values.now t exit.edge exit.point }
+{
+    let side = entered(&field.mesh, t, Edge::of(exit.edge))?;
+    if value_in(field, side.triangle, exit.point) > above {
+        return Err(Barrier::Above);
     }
+    Ok(side)
+}
 
-    // Beyond an edge of triangle t, left at an exit.
-    #[tactic(auto, unfolding(crate::specs::Crossing::beyond, crate::specs::Crossing::entering))]
-    fn beyond(&self, above: f64, t: usize, exit: Exit) -> Beyond
-        requires { (t < triangle_count self.now.mesh.triangles.now) × (exit.edge < 3) }
-        ensures { result ≡ Crossings.beyond above self.now.mesh.vertices.now self.now.mesh.triangles.now self.now.mesh.neighbours.now (triangle_count self.now.mesh.triangles.now) self.now.values.now t exit.edge exit.point }
-    {
-        let Some(side) = entered(&self.mesh, t, exit.edge) else {
-            return unentered(&self.mesh, t, exit.edge);
-        };
-        if self.value_in(side.triangle, exit.point) > above {
-            return Beyond::Above;
-        }
-        Beyond::Into(side)
+// What crossing a triangle, whose gradient is g, from an entry comes to.
+pub fn crossing(field: &Field, rule: Rule, step: f64, g: Point, entry: Entry) -> Crossing
+    requires { entry.triangle < triangle_count field.now.mesh.triangles.now }
+    ensures { result ≡ Crossings.crossing_along rule field.now.mesh.vertices.now field.now.mesh.triangles.now field.now.mesh.neighbours.now (triangle_count field.now.mesh.triangles.now) field.now.values.now g step entry.point entry.triangle entry.edge }
+{
+    let mag = magnitude(g);
+    if mag < rule.dull {
+        return Err(Halt::Dull);
     }
-
-    // What crossing a triangle, whose gradient is g, from an entry comes to.
-    pub fn crossing(&self, rule: Rule, step: f64, g: Point, entry: Entry) -> Crossing
-        requires { entry.triangle < triangle_count self.now.mesh.triangles.now }
-        ensures { result ≡ Crossings.crossing_along rule self.now.mesh.vertices.now self.now.mesh.triangles.now self.now.mesh.neighbours.now (triangle_count self.now.mesh.triangles.now) self.now.values.now g step entry.point entry.triangle entry.edge }
-    {
-        let mag = magnitude(g);
-        if mag < rule.dull {
-            return Crossing::Dull;
-        }
-        let dir = direction(step, g, mag);
-        let best = edges::find_exit_edge(&self.mesh, entry, dir, rule.dull);
-        let Some(exit) = best.exit else {
-            return Crossing::Stuck;
-        };
-        let n = distance::pieces(best.square, rule.spacing);
-        Crossing::Leaves(exit.point, n, self.beyond(rule.above, entry.triangle, exit))
-    }
+    let dir = direction(step, g, mag);
+    let best = edges::find_exit_edge(&field.mesh, entry, dir, rule.dull);
+    let exit = best.exit.ok_or(Halt::Stuck)?;
+    let pieces = distance::pieces(best.square, rule.spacing);
+    Ok(Leaving {
+        point: exit.point,
+        pieces,
+        beyond: beyond(field, rule.above, entry.triangle, exit),
+    })
 }

@@ -1,20 +1,19 @@
 // Where a ray leaves a triangle, and which edge is entered beyond.
-// `t < triangle_count` and `e < 3` stand in each contract: the first is a fact of two values, a mesh and a number, which no type of either holds, and an edge goes with it to the mesh's accessors, which take both as numbers.
-ghost use Rattle.std.specs.Prelude.{◌≡◌, ◌<◌};
+// `t < triangle_count` stands in the contracts, as in mesh, whose lib.rt says what a struct of a mesh and a triangle came to.
+ghost use Rattle.std.specs.Prelude.{◌≡◌, ◌+◌, ◌*◌, ◌<◌, length};
 ghost use Rattle.mesh.specs.Mesh.{triangle_count};
 ghost use Rattle.pde.specs.Exit as Exits;
 
 use super::{Candidate, Entry, Exit, Side};
-use mesh::Mesh;
+use mesh::{Edge, Mesh};
 use plane::Point;
 
 // The square of the distance of two points.
+#[tactic(auto, unfolding(plane::specs::Plane::minus, plane::specs::Plane::dot_of, plane::specs::Plane::length_squared))]
 fn squared(p: Point, q: Point) -> f64
     ensures { result ≡ Exits.squared p q }
 {
-    let dx = q.x - p.x;
-    let dy = q.y - p.y;
-    dx * dx + dy * dy
+    (q - p).length_squared()
 }
 
 #[tactic(auto, unfolding(crate::specs::Exit::distance))]
@@ -46,20 +45,20 @@ fn considered(
     mesh: &Mesh,
     entry: Entry,
     dir: Point,
-    e: usize,
+    e: Edge,
     best: Candidate,
     least: f64,
 ) -> Candidate
-    requires { (entry.triangle < triangle_count mesh.now.triangles.now) × (e < 3) }
-    ensures { Exits.rooted result ≡ Exits.considered least mesh.now.vertices.now mesh.now.triangles.now entry.triangle entry.point dir entry.edge e (Exits.rooted best) }
+    requires { entry.triangle < triangle_count mesh.now.triangles.now }
+    ensures { Exits.rooted result ≡ Exits.considered least mesh.now.vertices.now mesh.now.triangles.now entry.triangle entry.point dir entry.edge e.number (Exits.rooted best) }
 {
-    if e == entry.edge {
+    if e.number == entry.edge {
         return best;
     }
     let a = mesh.corner_point(entry.triangle, e);
-    let b = mesh.corner_point(entry.triangle, mesh::onward(e));
+    let b = mesh.corner_point(entry.triangle, e.onward());
     let hit = plane::get_ray_line_intersection(entry.point, dir, a, b);
-    offered(entry.point, e, hit, best, least)
+    offered(entry.point, e.number, hit, best, least)
 }
 
 // The nearest edge that the ray from an entry's point along `dir` meets in its triangle farther than the least, with the point and the square of how far it is.
@@ -67,64 +66,76 @@ pub fn find_exit_edge(mesh: &Mesh, entry: Entry, dir: Point, least: f64) -> Cand
     requires { entry.triangle < triangle_count mesh.now.triangles.now }
     ensures { Exits.rooted result ≡ Exits.nearest_of least mesh.now.vertices.now mesh.now.triangles.now entry.triangle entry.point dir entry.edge 3 }
 {
-    let mut best = Candidate {
-        square: 1.0 / 0.0,
+    let none = Candidate {
+        square: f64::INFINITY,
         exit: None,
     };
-    // A fold over three edges is no plainer.
-    for e in 0..3 {
-        best = considered(mesh, entry, dir, e, best, least);
-    }
-    best
+    (0..3).fold(
+        none,
+        |best, e| considered(mesh, entry, dir, Edge::of(e), best, least),
+    )
 }
 
 // The first edge of triangle t whose neighbour is `prev`, by the words: `prev` may be any number, also the one that stands for no neighbour.
-pub fn entry_edge_of(mesh: &Mesh, t: usize, prev: usize) -> Option<Side>
-    requires { t < triangle_count mesh.now.triangles.now }
-    ensures { result ≡ Exits.entry_edge mesh.now.neighbours.now t prev }
+// From here on a search asks for the lists that it reads, and not for a mesh, whose vertices it does not need.
+pub fn entry_edge_of(neighbours: &[u32], t: usize, prev: usize) -> Option<Side>
+    requires { 3 * t + 2 < length neighbours.now }
+    ensures { result ≡ Exits.entry_edge neighbours.now t prev }
 {
-    let edge = (0..3).find(|e| mesh.neighbour_word(t, *e) as usize == prev)?;
-    Some(Side { triangle: t, edge })
+    (0..3)
+        .find(|e| mesh::neighbour_word(neighbours, t, *e) as usize == prev)
+        .map(|edge| Side { triangle: t, edge })
 }
 
 // Edge e of triangle t has no neighbour and joins b to a.
-fn is_cut(mesh: &Mesh, a: usize, b: usize, t: usize, e: usize) -> bool
-    requires { (t < triangle_count mesh.now.triangles.now) × (e < 3) }
-    ensures { result ≡ Exits.is_cut mesh.now.triangles.now mesh.now.neighbours.now a b t e }
+fn is_cut(triangles: &[u32], neighbours: &[u32], a: usize, b: usize, t: usize, e: Edge) -> bool
+    requires { (length neighbours.now ≡ length triangles.now) × (t < triangle_count triangles.now) }
+    ensures { result ≡ Exits.is_cut triangles.now neighbours.now a b t e.number }
 {
-    if mesh.neighbour(t, e).is_some() {
-        return false;
-    }
-    if mesh.corner(t, e) != b {
-        return false;
-    }
-    mesh.corner(t, mesh::onward(e)) == a
+    mesh::neighbour(neighbours, t, e.number).is_none()
+        && mesh::corner(triangles, t, e.number) == b
+        && mesh::corner(triangles, t, e.onward().number) == a
 }
 
 // The first edge of triangle t that has no neighbour and joins b to a.
-fn cut_edge_of(mesh: &Mesh, a: usize, b: usize, t: usize) -> Option<Side>
-    requires { t < triangle_count mesh.now.triangles.now }
-    ensures { result ≡ Exits.cut_edge_of mesh.now.triangles.now mesh.now.neighbours.now a b t }
+fn cut_edge_of(triangles: &[u32], neighbours: &[u32], a: usize, b: usize, t: usize) -> Option<Side>
+    requires { (length neighbours.now ≡ length triangles.now) × (t < triangle_count triangles.now) }
+    ensures { result ≡ Exits.cut_edge_of triangles.now neighbours.now a b t }
 {
-    let edge = (0..3).find(|e| is_cut(mesh, a, b, t, *e))?;
-    Some(Side { triangle: t, edge })
+    (0..3)
+        .find(|e| is_cut(triangles, neighbours, a, b, t, Edge::of(*e)))
+        .map(|edge| Side { triangle: t, edge })
+}
+
+// The same, where t is another triangle than the one that is left.
+fn cut_edge_beside(
+    triangles: &[u32],
+    neighbours: &[u32],
+    here: usize,
+    a: usize,
+    b: usize,
+    t: usize,
+) -> Option<Side>
+    requires { (length neighbours.now ≡ length triangles.now) × (t < triangle_count triangles.now) }
+    ensures { result ≡ Exits.cut_triangle triangles.now neighbours.now here a b t }
+{
+    if t == here {
+        return None;
+    }
+    cut_edge_of(triangles, neighbours, a, b, t)
 }
 
 // Over a cut edge: the first other triangle, then the first edge, that has no neighbour and the corners reversed.
-// By a for, as std has no law of what `find_map` finds in a range.
-pub fn find_cut_edge_match(mesh: &Mesh, here: usize, e: usize) -> Option<Side>
-    requires { (here < triangle_count mesh.now.triangles.now) × (e < 3) }
-    ensures { result ≡ Exits.cut_match mesh.now.triangles.now mesh.now.neighbours.now (triangle_count mesh.now.triangles.now) here e }
+pub fn find_cut_edge_match(
+    triangles: &[u32],
+    neighbours: &[u32],
+    here: usize,
+    e: Edge,
+) -> Option<Side>
+    requires { (length neighbours.now ≡ length triangles.now) × (here < triangle_count triangles.now) }
+    ensures { result ≡ Exits.cut_match triangles.now neighbours.now (triangle_count triangles.now) here e.number }
 {
-    let a = mesh.corner(here, e);
-    let b = mesh.corner(here, mesh::onward(e));
-    for t in 0..mesh.triangle_count() {
-        if t == here {
-            continue;
-        }
-        if let Some(side) = cut_edge_of(mesh, a, b, t) {
-            return Some(side);
-        }
-    }
-    None
+    let a = mesh::corner(triangles, here, e.number);
+    let b = mesh::corner(triangles, here, e.onward().number);
+    (0..triangles.len() / 3).find_map(|t| cut_edge_beside(triangles, neighbours, here, a, b, t))
 }

@@ -1,40 +1,16 @@
 // The spiral: where it leaves a triangle, and one crossing.
 #![tactic(auto)]
 
-ghost use Rattle.std.specs.Prelude.{◌≡◌, length};
+ghost use Rattle.std.specs.Prelude.{◌≡◌};
 
 pub mod cross;
 pub mod edges;
 
-use mesh::Mesh;
 use plane::Point;
 
-// A mesh, and a value at each of its vertices.
-#[derive(Clone, Copy)]
-pub struct Field<'a> {
-    pub mesh: Mesh<'a>,
-    pub values: &'a [f64],
-    pub ghost one_each: { length values.now ≡ length mesh.tags.now },
-}
+// `Entry`, `Exit` and `Side` hold an edge's number and no `Edge`: the definitions build them over numbers, and the edge of an entry may be `NO_EDGE`, which no `Edge` is.
 
-impl<'a> Field<'a> {
-    ghost use Rattle.mesh.specs.Work.{first_at};
-    ghost use Rattle.pde.specs.Work.{Fielded};
-    ghost use Rattle.pde.specs.Stands.{FieldStands};
-
-    // The mesh of n vertices and t triangles whose lists stand first in two buffers, with the n values from u on.
-    pub fn of(floats: &'a [f64], words: &'a [u32], n: usize, t: usize, u: usize) -> Field<'a>
-        requires { Fielded floats.now words.now (first_at n t) u }
-        ensures { FieldStands floats.now words.now (first_at n t) u result }
-    {
-        Field {
-            mesh: Mesh::of(floats, words, n, t),
-            values: &floats[u..u + n],
-        }
-    }
-}
-
-// A point in a triangle, and the edge by which the path came in (3: none). A number and no Option, since it is handed on from a `Walk` and back to one.
+// A point in a triangle, and the edge by which the path came in, or `NO_EDGE`. A number and no Option, since it is handed on from a `Walk` and back to one.
 #[derive(Clone, Copy)]
 pub struct Entry {
     pub point: Point,
@@ -49,7 +25,7 @@ pub struct Exit {
     pub point: Point,
 }
 
-// The nearest exit so far, and the square of how far it is.
+// The nearest exit so far, and the square of how far it is: infinity where there is none, since an exit that is infinitely far is no exit either.
 #[derive(Clone, Copy)]
 pub struct Candidate {
     pub square: f64,
@@ -63,23 +39,63 @@ pub struct Side {
     pub edge: usize,
 }
 
-// Beyond an exit: the border (end 3), a neighbour that does not name us back (end 4), a value above the threshold (end 5),
-// or the next triangle and the edge it is entered by.
+// Why a path ends in a triangle: the gradient is too small, or the ray leaves by no edge.
 #[derive(Clone, Copy)]
-pub enum Beyond {
+pub enum Halt {
+    Dull,
+    Stuck,
+}
+
+impl Halt {
+    ghost use Rattle.pde.specs.Outcome.{halt_number};
+
+    // The end's number in the record.
+    pub fn number(self) -> usize
+        ensures { result ≡ halt_number self }
+    {
+        match self {
+            Halt::Dull => 1,
+            Halt::Stuck => 2,
+        }
+    }
+}
+
+// Why a path ends at an exit: the border, a neighbour that does not name us back, or a value above the threshold.
+#[derive(Clone, Copy)]
+pub enum Barrier {
     Border,
     Unnamed,
     Above,
-    Into(Side),
 }
 
-// What a crossing comes to before the room is looked at: the gradient is too small (end 1), there is no exit (end 2), or an exit's point, in how many pieces the way to it is laid, and what lies beyond it.
-#[derive(Clone, Copy)]
-pub enum Crossing {
-    Dull,
-    Stuck,
-    Leaves(Point, usize, Beyond),
+impl Barrier {
+    ghost use Rattle.pde.specs.Outcome.{barrier_number};
+
+    // The end's number in the record.
+    pub fn number(self) -> usize
+        ensures { result ≡ barrier_number self }
+    {
+        match self {
+            Barrier::Border => 3,
+            Barrier::Unnamed => 4,
+            Barrier::Above => 5,
+        }
+    }
 }
+
+// Beyond an exit: the next triangle and the edge it is entered by, or what ends the path there.
+pub type Beyond = Result<Side, Barrier>;
+
+// A triangle left: by which point, in how many pieces the way to it is laid, and what lies beyond it.
+#[derive(Clone, Copy)]
+pub struct Leaving {
+    pub point: Point,
+    pub pieces: usize,
+    pub beyond: Beyond,
+}
+
+// What a crossing comes to before the room is looked at.
+pub type Crossing = Result<Leaving, Halt>;
 
 // The thresholds: the least magnitude of a gradient and distance of an exit, the value at which the path ends, and the longest piece.
 #[derive(Clone, Copy)]
@@ -89,7 +105,10 @@ pub struct Rule {
     pub spacing: f64,
 }
 
-// Where the path stands: its position and triangle, how many points it has, the edge by which it came into the triangle (3: none), and its end (0: none yet).
+// No edge, as a number of `Entry` and `Walk`.
+pub const NO_EDGE: usize = 3;
+
+// Where the path stands: its position and triangle, how many points it has, the edge by which it came into the triangle, or none, and its end (0: none yet).
 // Edge and end are numbers, and triangle and edge no `Side`, since a run's record is whatever numbers C hands over, and a stand is tested only after the lengths of the lent buffers: any number has to fit.
 #[derive(Clone, Copy)]
 pub struct Walk {
@@ -98,4 +117,21 @@ pub struct Walk {
     pub points: usize,
     pub edge: usize,
     pub end: usize,
+}
+
+// Where the path stands in its triangle.
+impl From<Walk> for Entry {
+    ghost use Rattle.pde.specs.Standing.{entry_at};
+
+    ghost from_gives = { λ walk entry. entry ≡ entry_at walk };
+
+    fn from(walk: Walk) -> Entry
+        ensures { result ≡ entry_at walk }
+    {
+        Entry {
+            point: walk.position,
+            triangle: walk.triangle,
+            edge: walk.edge,
+        }
+    }
 }

@@ -1,5 +1,5 @@
 // Points of the plane and the predicates under the spiral, each operation in the order in which the Rust has it.
-// A triangle's corners and an edge's ends are points of their own: the callers have them so, and `sign` takes the corners in pairs.
+// A triangle's corners, its values and an edge's ends are parameters of their own: the definitions name each number, and an array would be indexed in each clause.
 #![tactic(auto)]
 
 ghost use Rattle.std.specs.Prelude.{◌≡◌};
@@ -75,10 +75,8 @@ fn on_segment(at: Point, len2: f64, e: Point, a: Point) -> Option<Point>
         return Some(at);
     }
     let proj = d / len2;
-    if -1e-12 <= proj {
-        if proj <= 1.0 + 1e-12 {
-            return Some(at);
-        }
+    if -1e-12 <= proj && proj <= 1.0 + 1e-12 {
+        return Some(at);
     }
     None
 }

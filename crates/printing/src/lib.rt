@@ -2,8 +2,6 @@
 #![tactic(auto)]
 
 ghost use Rattle.std.specs.Prelude.{◌≤◌, length, take};
-ghost use Rattle.refusal.specs.Refusal.{number_of};
-ghost use Rattle.text.specs.Text.{refused_text};
 ghost use Rattle.image.specs.Calls.{buffers};
 ghost use Rattle.text.specs.Put.{Printed};
 ghost use Rattle.printing.specs.Printed as Text;
@@ -28,15 +26,7 @@ pub const PATH: usize = 8192;
 // More than the text of lists that stand in such buffers: 67 + 37 · (8,192 + 8,192) bytes at the most.
 pub const TEXT: usize = 655360;
 
-// The text of a refusal.
-fn put_refusal(out: &mut [u8], refusal: Refusal) -> usize
-    requires { 29 ≤ length out.old }
-    ensures { Printed out.old 0 (refused_text (number_of refusal)) result out.new }
-{
-    text::put_refused(out, u64::from(refusal.number()))
-}
-
-// What a run shows. Counts by `as`: no `From` makes a u64 of a usize.
+// What a run shows, its ends by their numbers, as the text has them. Counts by `as`: no `From` makes a u64 of a usize.
 fn put_shown(out: &mut [u8], run: Run, floats: &[f64], path: &[f64]) -> usize
     requires { Steps.Room floats.now path.now out.old }
     ensures { Printed out.old 0 (Steps.shown_text run floats.now path.now) result out.new }
@@ -50,7 +40,7 @@ fn put_shown(out: &mut [u8], run: Run, floats: &[f64], path: &[f64]) -> usize
         gradients: showing::gradients(run, floats),
         points: showing::points(run, path),
     };
-    text::put_run(out, shown)
+    text::put_run(out, 0, shown)
 }
 
 // Three buffers, not one struct of them: `&` and `&mut` say here and above which of them is written.
@@ -68,7 +58,7 @@ fn put_last(
     let answer = advancing::advance(opened, u32::MAX, floats, words, path);
     match answer {
         Ok(last) => put_shown(out, last, floats, path),
-        Err(refusal) => put_refusal(out, refusal),
+        Err(refusal) => text::put_refusal(out, 0, refusal),
     }
 }
 
@@ -84,11 +74,11 @@ pub fn print_sheet(
     ensures { Text.Prints sheet.now (buffers floats.old words.old path.old) out.old result (buffers floats.new words.new path.new) out.new }
 {
     if SHEET < sheet.len() {
-        return put_refusal(out, Refusal::Space);
+        return text::put_refusal(out, 0, Refusal::Space);
     }
     match opening::open(sheet, floats, words, path) {
         Ok(run) => put_last(out, run, floats, words, path),
-        Err(refusal) => put_refusal(out, refusal),
+        Err(refusal) => text::put_refusal(out, 0, refusal),
     }
 }
 

@@ -1,11 +1,19 @@
 // Reading into a lent buffer until it is full.
 #![tactic(auto)]
 
-ghost use Rattle.std.specs.Prelude.{◌<◌, ◌≤◌, IfOk, length, take};
+ghost use Rattle.std.specs.Prelude.{◌≡◌, ◌<◌, ◌≤◌, IfOk, length, replicate, take};
 ghost use Rattle.std.specs.Io.KnownBytes.{Consumes, IsAtEnd};
 
 use std::io;
 use std::io::Read;
+
+// A buffer of N zeros, by their number alone: the length of a large array that stands in its user's body is computed digit by digit.
+pub fn zeros<const N: usize>() -> [u8; N]
+    ensures long { length result ≡ N }
+    ensures zero { result ≡ replicate N 0 }
+{
+    [0u8; N]
+}
 
 // Reads until the buffer is full or the input ends. Answers how many bytes were read: fewer than the buffer holds only where the input ended.
 pub fn read_full<R: Read>(reader: &mut R, buf: &mut [u8]) -> io::Result<usize>

@@ -10,19 +10,40 @@ use Rattle.work.specs.declared.Stand.{Stand}
 use Rattle.work.specs.declared.Run.{Run}
 use Rattle.plane.specs.declared.Point.{Point}
 use Rattle.work.specs.declared.Kept.{Kept}
+use Rattle.records.specs.declared.lists.Lists.{Lists}
+
+-- ---- the two lists
+
+pub record Listed : Type 0 where
+  pub wholes : List ℕ
+  pub reals : List Float
+
+abbrev pub listed : List ℕ → List Float → Listed
+listed ns xs = record { wholes = ns; reals = xs }
+
+-- what two slices hold
+abbrev pub listed_in : Lists → Listed
+listed_in l = listed l.wholes.now l.reals.now
+
+-- whether they have so many places
+abbrev pub placed : ℕ → ℕ → Listed → Bool
+placed wholes reals l = leb wholes (length l.wholes) && leb reals (length l.reals)
 
 -- ---- lists that hold a record
 
--- whether lists of so many places do
+-- by their lengths
 abbrev pub fitting : ℕ → ℕ → Bool
 fitting wholes reals = leb 17 wholes && leb 8 reals
 
-unfoldable pub fits : List ℕ → List Float → Bool
-fits ns xs = fitting (length ns) (length xs)
+unfoldable pub fits : Listed → Bool
+fits l = placed 17 8 l
 
 -- whether both flags are 0 or 1
-unfoldable pub flagged : List ℕ → Bool
-flagged ns = leb (get_or ns 4 0) 1 && leb (get_or ns 13 0) 1
+abbrev pub flags : List ℕ → Bool
+flags ns = leb (get_or ns 4 0) 1 && leb (get_or ns 13 0) 1
+
+unfoldable pub flagged : Listed → Bool
+flagged l = flags l.wholes
 
 -- ---- a record from its numbers; what has no place reads as 0
 
@@ -32,76 +53,53 @@ whole ns i = get_or ns i 0
 abbrev pub real : List Float → ℕ → Float
 real xs i = get_or xs i plus_zero
 
-abbrev given_by : ℕ → List Float → Option Point
-given_by zero xs = None
-given_by (suc k) xs = Some (point (real xs 2) (real xs 3))
+-- an option from a presence and its value
+abbrev pub given_by : {A : Type 0} → ℕ → A → Option A
+given_by zero v = None
+given_by (suc k) v = Some v
 
-unfoldable pub given_from : List ℕ → List Float → Option Point
-given_from ns xs = given_by (whole ns 4) xs
+abbrev pub start_from : Listed → Option Point
+start_from l = given_by (whole l.wholes 4) (point (real l.reals 2) (real l.reals 3))
 
-unfoldable pub plan_from : List ℕ → List Float → Plan
-plan_from ns xs = record { n = whole ns 0; t = whole ns 1; limit = whole ns 2; room = whole ns 3; tolerance = real xs 0; step = real xs 1; start = given_from ns xs }
+unfoldable pub plan_from : Listed → Plan
+plan_from l = record { n = whole l.wholes 0; t = whole l.wholes 1; limit = whole l.wholes 2; room = whole l.wholes 3; tolerance = real l.reals 0; step = real l.reals 1; start = start_from l }
 
-unfoldable pub walk_from : List ℕ → List Float → Walk
-walk_from ns xs = record { position = point (real xs 5) (real xs 6); triangle = whole ns 8; edge = whole ns 9; points = whole ns 10; end = whole ns 11 }
+unfoldable pub walk_from : Listed → Walk
+walk_from l = record { position = point (real l.reals 5) (real l.reals 6); triangle = whole l.wholes 8; edge = whole l.wholes 9; points = whole l.wholes 10; end = whole l.wholes 11 }
 
-unfoldable pub stand_from : List ℕ → List Float → Stand
-stand_from ns xs = record { place = whole ns 5; rs = real xs 4; norms = whole ns 6; end = whole ns 7; walk = walk_from ns xs; crossings = whole ns 12 }
+unfoldable pub stand_from : Listed → Stand
+stand_from l = record { place = whole l.wholes 5; rs = real l.reals 4; norms = whole l.wholes 6; end = whole l.wholes 7; walk = walk_from l; crossings = whole l.wholes 12 }
 
-abbrev mark_by : ℕ → List ℕ → List Float → Option Kept
-mark_by zero ns xs = None
-mark_by (suc k) ns xs = Some (record { place = whole ns 14; rs = real xs 7; norms = whole ns 15 })
+abbrev pub mark_from : Listed → Option Kept
+mark_from l = given_by (whole l.wholes 13) (record { place = whole l.wholes 14; rs = real l.reals 7; norms = whole l.wholes 15 })
 
-unfoldable pub mark_from : List ℕ → List Float → Option Kept
-mark_from ns xs = mark_by (whole ns 13) ns xs
-
-unfoldable pub run_from : List ℕ → List Float → Run
-run_from ns xs = record { plan = plan_from ns xs; stand = stand_from ns xs; mark = mark_from ns xs; passes = whole ns 16 }
+unfoldable pub run_from : Listed → Run
+run_from l = record { plan = plan_from l; stand = stand_from l; mark = mark_from l; passes = whole l.wholes 16 }
 
 -- ---- the numbers of a record, put at their places; what has no place is left out
 
-abbrev pub wholes_given : Option Point → List ℕ → List ℕ
-wholes_given None ns = set ns 4 0
-wholes_given (Some p) ns = set ns 4 1
+abbrev pub start_put : Option Point → Listed → Listed
+start_put None l = listed (set l.wholes 4 0) l.reals
+start_put (Some p) l = listed (set l.wholes 4 1) (set (set l.reals 2 p.x) 3 p.y)
 
-abbrev pub reals_given : Option Point → List Float → List Float
-reals_given None xs = xs
-reals_given (Some p) xs = set (set xs 2 p.x) 3 p.y
+unfoldable pub plan_put : Plan → Listed → Listed
+plan_put plan l = start_put plan.start (listed (set (set (set (set l.wholes 0 plan.n) 1 plan.t) 2 plan.limit) 3 plan.room) (set (set l.reals 0 plan.tolerance) 1 plan.step))
 
-unfoldable pub wholes_plan : Plan → List ℕ → List ℕ
-wholes_plan plan ns = wholes_given plan.start (set (set (set (set ns 0 plan.n) 1 plan.t) 2 plan.limit) 3 plan.room)
+unfoldable pub walk_put : Walk → Listed → Listed
+walk_put w l = listed (set (set (set (set l.wholes 8 w.triangle) 9 w.edge) 10 w.points) 11 w.end) (set (set l.reals 5 w.position.x) 6 w.position.y)
 
-unfoldable pub reals_plan : Plan → List Float → List Float
-reals_plan plan xs = reals_given plan.start (set (set xs 0 plan.tolerance) 1 plan.step)
+unfoldable pub stand_put : Stand → Listed → Listed
+stand_put s l = walk_put s.walk (listed (set (set (set (set l.wholes 5 s.place) 6 s.norms) 7 s.end) 12 s.crossings) (set l.reals 4 s.rs))
 
-unfoldable pub wholes_walk : Walk → List ℕ → List ℕ
-wholes_walk w ns = set (set (set (set ns 8 w.triangle) 9 w.edge) 10 w.points) 11 w.end
+abbrev pub mark_put : Option Kept → Listed → Listed
+mark_put None l = listed (set l.wholes 13 0) l.reals
+mark_put (Some k) l = listed (set (set (set l.wholes 13 1) 14 k.place) 15 k.norms) (set l.reals 7 k.rs)
 
-unfoldable pub reals_walk : Walk → List Float → List Float
-reals_walk w xs = set (set xs 5 w.position.x) 6 w.position.y
+unfoldable pub run_put : Run → Listed → Listed
+run_put r l = mark_put r.mark (stand_put r.stand (plan_put r.plan (listed (set l.wholes 16 r.passes) l.reals)))
 
-unfoldable pub wholes_stand : Stand → List ℕ → List ℕ
-wholes_stand s ns = set (wholes_walk s.walk (set (set (set ns 5 s.place) 6 s.norms) 7 s.end)) 12 s.crossings
-
-unfoldable pub reals_stand : Stand → List Float → List Float
-reals_stand s xs = reals_walk s.walk (set xs 4 s.rs)
-
-abbrev pub wholes_mark : Option Kept → List ℕ → List ℕ
-wholes_mark None ns = set ns 13 0
-wholes_mark (Some k) ns = set (set (set ns 13 1) 14 k.place) 15 k.norms
-
-abbrev pub reals_mark : Option Kept → List Float → List Float
-reals_mark None xs = xs
-reals_mark (Some k) xs = set xs 7 k.rs
-
-unfoldable pub wholes_run : Run → List ℕ → List ℕ
-wholes_run r ns = set (wholes_mark r.mark (wholes_stand r.stand (wholes_plan r.plan ns))) 16 r.passes
-
-unfoldable pub reals_run : Run → List Float → List Float
-reals_run r xs = reals_mark r.mark (reals_stand r.stand (reals_plan r.plan xs))
-
--- the lists hold the record r
-pub record Holds (r : Run) (ns : List ℕ) (xs : List Float) : Type 0 where
-  pub reads : run_from ns xs ≡ r
-  pub flags : flagged ns ≡ true
-  pub fit : fits ns xs ≡ true
+-- the lists l hold the record r
+pub record Holds (r : Run) (l : Listed) : Type 0 where
+  pub reads : run_from l ≡ r
+  pub flags : flagged l ≡ true
+  pub fit : fits l ≡ true

@@ -1,29 +1,43 @@
 // A record from its numbers. A flag is 0 or 1 (`flagged`); what is read of another is not used.
 ghost use Rattle.std.specs.Prelude.{◌≡◌};
 ghost use Rattle.records.specs.Numbers as Numbers;
+ghost use Rattle.records.specs.Numbers.{listed_in};
 
-use crate::lists::Lists;
+use crate::lists::{Lists, get_or, given};
 use pde::Walk;
 use plane::Point;
 use work::{Kept, Plan, Run, Stand};
 
-// The parts of a record; specs/Numbers.antt says which number each place holds.
+// Whether lists of these lengths hold a record.
+pub fn fits(wholes: usize, reals: usize) -> bool
+    ensures { result ≡ Numbers.fitting wholes reals }
+{
+    17 <= wholes && 8 <= reals
+}
+
+// Whether both flags are 0 or 1.
+pub fn flagged(wholes: &[u64]) -> bool
+    ensures { result ≡ Numbers.flags wholes.now }
+{
+    let start = get_or(wholes, 4, 0);
+    let mark = get_or(wholes, 13, 0);
+    start <= 1 && mark <= 1
+}
+
+// The parts of a record; specs/Numbers.antt says which number each place holds. Methods, and no `From`: five parts are read of the same lists, two of them options, and what is read is a record only where the lists are `flagged`.
+// No `TryFrom` that tests this: what refuses a record comes before its flags (`held_fault` of controls), so it is read with any flags.
 impl Lists<'_> {
-    #[tactic(auto, unfolding(crate::specs::Numbers::given_from))]
-    fn given(&self) -> Option<Point>
-        ensures { result ≡ Numbers.given_from self.now.wholes.now self.now.reals.now }
+    fn start(&self) -> Option<Point>
+        ensures { result ≡ Numbers.start_from (listed_in self.now) }
     {
-        if self.whole(4) == 0 {
-            return None;
-        }
         let x = self.real(2);
         let y = self.real(3);
-        Some(Point { x, y })
+        given(self.whole(4), Point { x, y })
     }
 
     #[tactic(auto, unfolding(crate::specs::Numbers::plan_from))]
     fn plan(&self) -> Plan
-        ensures { result ≡ Numbers.plan_from self.now.wholes.now self.now.reals.now }
+        ensures { result ≡ Numbers.plan_from (listed_in self.now) }
     {
         Plan {
             n: self.whole(0) as usize,
@@ -32,13 +46,13 @@ impl Lists<'_> {
             room: self.whole(3) as usize,
             tolerance: self.real(0),
             step: self.real(1),
-            start: self.given(),
+            start: self.start(),
         }
     }
 
     #[tactic(auto, unfolding(crate::specs::Numbers::walk_from))]
     fn walk(&self) -> Walk
-        ensures { result ≡ Numbers.walk_from self.now.wholes.now self.now.reals.now }
+        ensures { result ≡ Numbers.walk_from (listed_in self.now) }
     {
         let x = self.real(5);
         let y = self.real(6);
@@ -53,7 +67,7 @@ impl Lists<'_> {
 
     #[tactic(auto, unfolding(crate::specs::Numbers::stand_from))]
     fn stand(&self) -> Stand
-        ensures { result ≡ Numbers.stand_from self.now.wholes.now self.now.reals.now }
+        ensures { result ≡ Numbers.stand_from (listed_in self.now) }
     {
         Stand {
             place: self.whole(5) as usize,
@@ -65,41 +79,36 @@ impl Lists<'_> {
         }
     }
 
-    #[tactic(auto, unfolding(crate::specs::Numbers::mark_from))]
     fn mark(&self) -> Option<Kept>
-        ensures { result ≡ Numbers.mark_from self.now.wholes.now self.now.reals.now }
+        ensures { result ≡ Numbers.mark_from (listed_in self.now) }
     {
-        if self.whole(13) == 0 {
-            return None;
-        }
-        Some(Kept {
+        let kept = Kept {
             place: self.whole(14) as usize,
             rs: self.real(7),
             norms: self.whole(15) as usize,
-        })
+        };
+        given(self.whole(13), kept)
     }
 
     // Whether the lists hold a record.
     #[tactic(auto, unfolding(crate::specs::Numbers::fits))]
     pub fn fits(&self) -> bool
-        ensures { result ≡ Numbers.fits self.now.wholes.now self.now.reals.now }
+        ensures { result ≡ Numbers.fits (listed_in self.now) }
     {
-        (17 <= self.wholes.len()) & (8 <= self.reals.len())
+        fits(self.wholes.len(), self.reals.len())
     }
 
     // Whether both flags are 0 or 1.
     #[tactic(auto, unfolding(crate::specs::Numbers::flagged))]
     pub fn flagged(&self) -> bool
-        ensures { result ≡ Numbers.flagged self.now.wholes.now }
+        ensures { result ≡ Numbers.flagged (listed_in self.now) }
     {
-        let start = self.whole(4);
-        let mark = self.whole(13);
-        (start <= 1) & (mark <= 1)
+        flagged(self.wholes)
     }
 
     #[tactic(auto, unfolding(crate::specs::Numbers::run_from))]
     pub fn run(&self) -> Run
-        ensures { result ≡ Numbers.run_from self.now.wholes.now self.now.reals.now }
+        ensures { result ≡ Numbers.run_from (listed_in self.now) }
     {
         Run {
             plan: self.plan(),

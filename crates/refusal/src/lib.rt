@@ -9,24 +9,24 @@ use std::fmt;
 #[derive(Clone, Copy, Debug, PartialEq, Eq, Hash)]
 pub enum Refusal {
     // a sheet that is too short, or has bytes left over
-    Length,
+    Length = 1,
     // a count over its limit
-    TooMany,
+    TooMany = 2,
     // a count that does not fit the counts before it
-    Mismatch,
+    Mismatch = 3,
     // a vertex number, a neighbour or a tag outside its set
-    OutsideSet,
+    OutsideSet = 4,
     // a setting of an unknown kind or out of order, or one that is missing
-    Setting,
-    NotANumber,
+    Setting = 5,
+    NotANumber = 6,
     // infinite, or outside its range
-    OutOfRange,
+    OutOfRange = 7,
     // lent space that is too short
-    Space,
+    Space = 8,
     // a return with no mark
-    NoMark,
+    NoMark = 9,
     // an index or a count of the record or the work outside its range, or too many passes
-    Record,
+    Record = 10,
 }
 
 impl Refusal {
@@ -35,25 +35,13 @@ impl Refusal {
     pub fn number(self) -> u32
         ensures { result ≡ number_of self }
     {
-        match self {
-            Refusal::Length => 1,
-            Refusal::TooMany => 2,
-            Refusal::Mismatch => 3,
-            Refusal::OutsideSet => 4,
-            Refusal::Setting => 5,
-            Refusal::NotANumber => 6,
-            Refusal::OutOfRange => 7,
-            Refusal::Space => 8,
-            Refusal::NoMark => 9,
-            Refusal::Record => 10,
-        }
+        self as u32
     }
 }
 
 impl fmt::Display for Refusal {
     fn fmt<W: fmt::Write>(&self, f: &mut fmt::Formatter<W>) -> fmt::Result {
-        let refusal = *self;
-        write!(f, "refused {}", refusal.number())
+        write!(f, "refused {}", self.number())
     }
 }
 

@@ -6,16 +6,19 @@ use format::{Content, Settings};
 use refusal::Refusal;
 use std::io;
 
-// The text's first bytes, and how many it has.
-fn print_front(rt: &impl Print, text: &[u8], line: usize) -> io::Result<()> {
-    let Some(front) = text.get(..line) else {
+// How many bytes the first line has: no place here is above 9.
+const LINE: usize = 9;
+
+// The text's first line, and how many bytes it has.
+fn print_front(rt: &impl Print, text: &[u8]) -> io::Result<()> {
+    let Some(front) = text.get(..LINE) else {
         return Ok(());
     };
     rt.write_all(front)?;
     println!(rt; " {}", text.len())
 }
 
-// The first line has nine bytes: no place here is above 9.
+// The printer answers how many of the lent bytes have the text.
 fn print_lent(
     rt: &impl Print,
     sheet: &[u8],
@@ -25,9 +28,10 @@ fn print_lent(
     out: &mut [u8; printing::TEXT],
 ) -> io::Result<()> {
     let end = printing::print_sheet(sheet, floats, words, path, out);
-    print_front(rt, &out[..end], 9)
+    print_front(rt, &out[..end])
 }
 
+// On buffers of its own, as `stream` has them: one function for both would take a closure of four arrays, and the contract that `stream` owes of it.
 fn print_of(rt: &impl Print, sheet: &[u8]) -> io::Result<()> {
     let mut out = [0u8; printing::TEXT];
     let mut floats = [0.0; printing::FLOATS];
@@ -36,6 +40,7 @@ fn print_of(rt: &impl Print, sheet: &[u8]) -> io::Result<()> {
     print_lent(rt, sheet, &mut floats, &mut words, &mut path, &mut out)
 }
 
+// The sheet is the first `count` bytes: a number, as the writer answers it.
 fn print_first(rt: &impl Print, sheet: &[u8], count: usize) -> io::Result<()> {
     match sheet.get(..count) {
         Some(front) => print_of(rt, front),
@@ -45,7 +50,7 @@ fn print_first(rt: &impl Print, sheet: &[u8], count: usize) -> io::Result<()> {
 
 // So many bytes, all the same.
 fn print_same(rt: &impl Print, byte: u8, count: usize) -> io::Result<()> {
-    let sheet = [byte; 65537];
+    let sheet = [byte; printing::READ];
     print_first(rt, &sheet, count)
 }
 
@@ -61,7 +66,7 @@ fn settings(limit: u64, room: u64) -> Settings {
     }
 }
 
-// The sheet of the first n vertices and tags and the first t triangles; none where they are not all there.
+// The sheet of the first n vertices and tags and the first t triangles; none where they are not all there. `replay_sheets` cuts its lists too, but neighbours by a number of their own: one function for both would be a public one of `sheet`, with a contract, for two programs.
 fn write(n: usize, t: usize, all: &Content, out: &mut [u8]) -> Option<Result<usize, Refusal>> {
     let content = Content {
         vertices: all.vertices.get(..n.checked_mul(2)?)?,
@@ -73,7 +78,7 @@ fn write(n: usize, t: usize, all: &Content, out: &mut [u8]) -> Option<Result<usi
     Some(sheet::write_sheet(&content, out))
 }
 
-// A sheet of n vertices, all at (0, 0) and free, and of t triangles, all of the first vertex.
+// A sheet of n vertices, all at (0, 0) and free, and of t triangles, all of the first vertex: the numbers of a line of `main`.
 fn print_counts(rt: &impl Print, n: usize, t: usize, limit: u64, room: u64) -> io::Result<()> {
     let all = Content {
         vertices: &[0.0; 1362],
@@ -83,11 +88,13 @@ fn print_counts(rt: &impl Print, n: usize, t: usize, limit: u64, room: u64) -> i
         settings: settings(limit, room),
     };
     let mut sheet = [0u8; 32768];
-    let size = match write(n, t, &all, &mut sheet) {
-        Some(Ok(size)) => size,
-        Some(Err(_)) | None => 0,
+    let Some(written) = write(n, t, &all, &mut sheet) else {
+        return Ok(());
     };
-    print_first(rt, &sheet, size)
+    match written {
+        Ok(size) => print_first(rt, &sheet, size),
+        Err(refusal) => println!(rt; "{refusal}"),
+    }
 }
 
 fn main(rt: HostRuntime) -> io::Result<()> {
@@ -105,8 +112,8 @@ fn main(rt: HostRuntime) -> io::Result<()> {
     print_counts(&rt, 0, 0, 0, 4096)?;
     print_counts(&rt, 0, 0, 0, 4097)?;
     // 65,536 bytes, and one more: five counts of 0 and bytes left over; a count over its limit
-    print_same(&rt, 0, 65536)?;
-    print_same(&rt, 0, 65537)?;
-    print_same(&rt, 255, 65536)?;
-    print_same(&rt, 255, 65537)
+    print_same(&rt, 0, printing::SHEET)?;
+    print_same(&rt, 0, printing::READ)?;
+    print_same(&rt, 255, printing::SHEET)?;
+    print_same(&rt, 255, printing::READ)
 }

@@ -5,7 +5,7 @@
 mod rows;
 mod tables;
 
-use rows::{is, number, point, rows_of};
+use rows::{is, number, point};
 use std::io;
 
 // Writes a function's line, and answers whether all rows agree.
@@ -25,56 +25,41 @@ fn replay<R, F: Fn(&R) -> bool>(
 
 // A count is a pattern by `as`: no `From` makes a u64 of a usize.
 fn replay_numbers(rt: &impl Print) -> io::Result<bool> {
-    let mut all = replay(
-        rt,
-        "sqrt",
-        rows_of::<2>(&tables::SQRT),
-        |&[x, y]: &[u64; 2]| { is(root::sqrt(number(x)), y) },
-    )?;
-    all &= replay(
-        rt,
-        "abs",
-        rows_of::<2>(&tables::ABS),
-        |&[x, y]: &[u64; 2]| { is(binary64::abs(number(x)), y) },
-    )?;
-    all &= replay(
-        rt,
-        "clamp",
-        rows_of::<2>(&tables::CLAMP),
-        |&[x, y]: &[u64; 2]| { is(binary64::clamp(number(x)), y) },
-    )?;
-    all &= replay(
-        rt,
-        "at_least",
-        rows_of::<2>(&tables::AT_LEAST),
-        |&[x, y]: &[u64; 2]| { is(binary64::at_least(1e-24, number(x)), y) },
-    )?;
+    let mut all = replay(rt, "sqrt", &tables::SQRT, |&[x, y]: &[u64; 2]| {
+        is(root::sqrt(number(x)), y)
+    })?;
+    all &= replay(rt, "abs", &tables::ABS, |&[x, y]: &[u64; 2]| {
+        is(binary64::abs(number(x)), y)
+    })?;
+    all &= replay(rt, "clamp", &tables::CLAMP, |&[x, y]: &[u64; 2]| {
+        is(binary64::clamp(number(x)), y)
+    })?;
+    all &= replay(rt, "at_least", &tables::AT_LEAST, |&[x, y]: &[u64; 2]| {
+        is(binary64::at_least(1e-24, number(x)), y)
+    })?;
     all &= replay(
         rt,
         "ceil_count",
-        rows_of::<2>(&tables::CEIL_COUNT),
+        &tables::CEIL_COUNT,
         |&[x, y]: &[u64; 2]| { binary64::ceil_count(number(x)) as u64 == y },
     )?;
     Ok(all)
 }
 
 fn replay_plane(rt: &impl Print) -> io::Result<bool> {
-    let mut all = replay(
-        rt,
-        "dot",
-        rows_of::<5>(&tables::DOT),
-        |&[px, py, qx, qy, y]: &[u64; 5]| { is(point(px, py).dot(point(qx, qy)), y) },
-    )?;
+    let mut all = replay(rt, "dot", &tables::DOT, |&[px, py, qx, qy, y]: &[u64; 5]| {
+        is(point(px, py).dot(point(qx, qy)), y)
+    })?;
     all &= replay(
         rt,
         "length_squared",
-        rows_of::<3>(&tables::LENGTH_SQUARED),
+        &tables::LENGTH_SQUARED,
         |&[px, py, y]: &[u64; 3]| { is(point(px, py).length_squared(), y) },
     )?;
     all &= replay(
         rt,
         "sign",
-        rows_of::<7>(&tables::SIGN),
+        &tables::SIGN,
         |&[px, py, ax, ay, bx, by, y]: &[u64; 7]| {
             is(plane::sign(point(px, py), point(ax, ay), point(bx, by)), y)
         },
@@ -82,7 +67,7 @@ fn replay_plane(rt: &impl Print) -> io::Result<bool> {
     all &= replay(
         rt,
         "point_in_triangle",
-        rows_of::<9>(&tables::POINT_IN_TRIANGLE),
+        &tables::POINT_IN_TRIANGLE,
         rows::point_in_triangle_agrees,
     )?;
     Ok(all)
@@ -92,19 +77,19 @@ fn replay_rays_and_weights(rt: &impl Print) -> io::Result<bool> {
     let mut all = replay(
         rt,
         "get_ray_line_intersection",
-        rows_of::<11>(&tables::GET_RAY_LINE_INTERSECTION),
+        &tables::GET_RAY_LINE_INTERSECTION,
         rows::ray_agrees,
     )?;
     all &= replay(
         rt,
         "get_barycentric_weights",
-        rows_of::<11>(&tables::GET_BARYCENTRIC_WEIGHTS),
+        &tables::GET_BARYCENTRIC_WEIGHTS,
         rows::weights_agree,
     )?;
     all &= replay(
         rt,
         "barycentric_interpolate",
-        rows_of::<12>(&tables::BARYCENTRIC_INTERPOLATE),
+        &tables::BARYCENTRIC_INTERPOLATE,
         rows::interpolate_agrees,
     )?;
     Ok(all)

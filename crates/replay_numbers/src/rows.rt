@@ -4,26 +4,12 @@ ghost use Rattle.std.specs.Prelude.{◌<◌, ◌≤◌, length};
 use plane::Point;
 pub use std::num::f64_from_bits_with_nan as number;
 
-// The rows of a table, of N patterns each.
-pub fn rows_of<const N: usize>(table: &[u64]) -> &[[u64; N]]
-    requires { 0 < N }
-{
-    let (rows, _) = table.as_chunks::<N>();
-    rows
-}
-
 // How many rows agree.
 pub fn agreeing<R, F: Fn(&R) -> bool>(rows: &[R], agrees: F) -> usize
     requires { F.IsAlwaysCallable agrees }
     ensures { result ≤ length rows.now }
 {
-    let mut agree = 0;
-    for row in rows {
-        if agrees(row) {
-            agree += 1;
-        }
-    }
-    agree
+    rows.iter().filter(|row| agrees(row)).count()
 }
 
 // Whether a number has the pattern, with one for every NaN.
@@ -38,53 +24,38 @@ pub fn point(x: u64, y: u64) -> Point {
     }
 }
 
+// The four points that the rows of these functions begin with.
+fn points(first: &[u64; 8]) -> [Point; 4] {
+    let &[px, py, qx, qy, rx, ry, sx, sy] = first;
+    [point(px, py), point(qx, qy), point(rx, ry), point(sx, sy)]
+}
+
 pub fn point_in_triangle_agrees(row: &[u64; 9]) -> bool {
-    let &[px, py, ax, ay, bx, by, cx, cy, expected] = row;
-    let inside = plane::point_in_triangle(
-        point(px, py),
-        point(ax, ay),
-        point(bx, by),
-        point(cx, cy),
-    );
-    u64::from(inside) == expected
+    let [p, a, b, c] = points(row.first_chunk().unwrap());
+    let &[.., expected] = row;
+    u64::from(plane::point_in_triangle(p, a, b, c)) == expected
 }
 
 // A hit is 1 and the point's two numbers, none is 0.
 pub fn ray_agrees(row: &[u64; 11]) -> bool {
-    let &[ox, oy, dx, dy, ax, ay, bx, by, found, x, y] = row;
-    let hit = plane::get_ray_line_intersection(
-        point(ox, oy),
-        point(dx, dy),
-        point(ax, ay),
-        point(bx, by),
-    );
-    match hit {
+    let [o, d, a, b] = points(row.first_chunk().unwrap());
+    let &[.., found, x, y] = row;
+    match plane::get_ray_line_intersection(o, d, a, b) {
         Some(p) => found == 1 && is(p.x, x) && is(p.y, y),
         None => found == 0,
     }
 }
 
 pub fn weights_agree(row: &[u64; 11]) -> bool {
-    let &[px, py, ax, ay, bx, by, cx, cy, r, s, t] = row;
-    let w = plane::get_barycentric_weights(
-        point(px, py),
-        point(ax, ay),
-        point(bx, by),
-        point(cx, cy),
-    );
+    let [p, a, b, c] = points(row.first_chunk().unwrap());
+    let &[.., r, s, t] = row;
+    let w = plane::get_barycentric_weights(p, a, b, c);
     is(w.r, r) && is(w.s, s) && is(w.t, t)
 }
 
 pub fn interpolate_agrees(row: &[u64; 12]) -> bool {
-    let &[px, py, ax, ay, bx, by, cx, cy, ua, ub, uc, expected] = row;
-    let value = plane::barycentric_interpolate(
-        point(px, py),
-        point(ax, ay),
-        point(bx, by),
-        point(cx, cy),
-        number(ua),
-        number(ub),
-        number(uc),
-    );
+    let [p, a, b, c] = points(row.first_chunk().unwrap());
+    let &[.., ua, ub, uc, expected] = row;
+    let value = plane::barycentric_interpolate(p, a, b, c, number(ua), number(ub), number(uc));
     is(value, expected)
 }

@@ -5,9 +5,5 @@ fn with(digest: u64, x: f64) -> u64 {
 }
 
 pub fn all(list: &[f64]) -> u64 {
-    let mut digest = 0;
-    for x in list {
-        digest = with(digest, *x);
-    }
-    digest
+    list.iter().fold(0, |digest, x| with(digest, *x))
 }

@@ -7,7 +7,7 @@ pub fn refused(rt: &impl Print, refusal: Refusal) -> io::Result<()> {
     println!(rt; "{refusal}")
 }
 
-// Place, passes, both ends, how many norms and points.
+// Place, passes, both ends by their numbers, how many norms and points.
 fn stand(rt: &impl Print, run: Run) -> io::Result<()> {
     let Run { stand, passes, .. } = run;
     print!(rt;

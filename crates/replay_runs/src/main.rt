@@ -6,14 +6,24 @@
 mod digest;
 mod lines;
 
-ghost use Rattle.std.specs.Prelude.{◌≡◌, length};
+ghost use Rattle.std.specs.Prelude.{◌<◌, IfSome, length};
+ghost use Rattle.std.specs.Iterator.{at_most};
 
 use std::io;
 
-// On buffers that suffice for small sheets; at most 40 calls.
+// At most so many calls of a sheet are replayed.
+const CALLS: usize = 40;
+
+// The numbers of a call.
+const NUMBERS: usize = 6;
+
+// The bytes of a call.
+const BYTES: usize = 4 * NUMBERS;
+
+// On buffers that suffice for small sheets.
 fn replay(rt: &impl Print, sheet: &[u8], calls: &[u32]) -> io::Result<()> {
-    let mut said = [0u32; 40];
-    let Some(said) = said.get_mut(..calls.len() / 6) else {
+    let mut said = [0u32; CALLS];
+    let Some(said) = said.get_mut(..calls.len() / NUMBERS) else {
         return Ok(());
     };
     let mut floats = [0.0; 4096];
@@ -25,10 +35,10 @@ fn replay(rt: &impl Print, sheet: &[u8], calls: &[u32]) -> io::Result<()> {
     }
 }
 
-// The calls by their bytes; at most 240 numbers.
+// The calls by their bytes.
 fn replay_one(rt: &impl Print, sheet: &[u8], bytes: &[u8]) -> io::Result<()> {
     let (numbers, _) = bytes.as_chunks::<4>();
-    let mut calls = [0u32; 240];
+    let mut calls = [0u32; NUMBERS * CALLS];
     let Some(calls) = calls.get_mut(..numbers.len()) else {
         return Ok(());
     };
@@ -39,43 +49,43 @@ fn replay_one(rt: &impl Print, sheet: &[u8], bytes: &[u8]) -> io::Result<()> {
 }
 
 // The number at the front of the input, and what stands behind it.
-fn number(input: &[u8]) -> Option<(u32, &[u8])> {
+fn number(input: &[u8]) -> Option<(u32, &[u8])>
+    ensures { IfSome result (λ found. length found.1.now < length input.now) }
+{
     let (bytes, rest) = input.split_first_chunk::<4>()?;
     Some((u32::from_le_bytes(*bytes), rest))
 }
 
-// The bytes of the sheet at the front of the input, those of its calls, and what stands behind them; none where the input ends before they do.
-// By `as`: no `From` makes a usize of a u32.
-fn first(input: &[u8]) -> Option<(&[u8], &[u8], &[u8])> {
-    let (size, rest) = number(input)?;
-    let (sheet, rest) = rest.split_at_checked(size as usize)?;
-    let (count, rest) = number(rest)?;
-    let (calls, rest) = rest.split_at_checked(24 * count as usize)?;
-    Some((sheet, calls, rest))
+// What an input has left.
+#[derive(Clone, Copy)]
+struct Sheets<'a>(&'a [u8]);
+
+impl<'a> Iterator for Sheets<'a> {
+    type Item = (&'a [u8], &'a [u8]);
+
+    ghost remaining = { λ s. at_most (length s.0.now) };
+
+    // The bytes of the next sheet and those of its calls; none where the input ends before they do. By `as`: no `From` makes a usize of a u32.
+    fn next(&mut self) -> Option<(&'a [u8], &'a [u8])> {
+        let (size, rest) = number(self.0)?;
+        let (sheet, rest) = rest.split_at_checked(size as usize)?;
+        let (count, rest) = number(rest)?;
+        let (calls, rest) = rest.split_at_checked(BYTES * count as usize)?;
+        self.0 = rest;
+        Some((sheet, calls))
+    }
 }
 
 // At most 1,000 sheets.
 fn replay_all(rt: &impl Print, input: &[u8]) -> io::Result<()> {
-    let mut rest = input;
-    for _ in 0..1000 {
-        let Some((sheet, calls, behind)) = first(rest) else {
-            return Ok(());
-        };
+    for (sheet, calls) in Sheets(input).take(1000) {
         replay_one(rt, sheet, calls)?;
-        rest = behind;
     }
     Ok(())
 }
 
-// Zeros, by their number alone.
-fn space() -> [u8; 163840]
-    ensures { 163840 ≡ length result }
-{
-    [0u8; 163840]
-}
-
 fn main(rt: HostRuntime) -> io::Result<()> {
-    let mut input = space();
+    let mut input = reading::zeros::<163840>();
     let got = reading::read_full(&mut rt.stdin(), &mut input)?;
     replay_all(&rt, &input[..got])
 }

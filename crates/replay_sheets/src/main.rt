@@ -16,28 +16,30 @@ fn line(rt: &impl Print, word: &str, answer: u32, counts: Counts) -> io::Result<
     Ok(agree == all)
 }
 
-fn replay_sheets(rt: &impl Print) -> io::Result<bool> {
+// Writes a line for each answer, and answers whether all agree.
+fn replay<F: Fn(u32) -> Counts>(
+    rt: &impl Print,
+    word: &str,
+    answers: &[u32],
+    counts: F,
+) -> io::Result<bool>
+    requires { F.IsAlwaysCallable counts }
+{
     let mut all = true;
-    for answer in 0..8 {
-        let counts = sheets::replayed(&tables::SHEETS, answer);
-        all &= line(rt, "read", answer, counts)?;
-    }
-    Ok(all)
-}
-
-// A content that is refused by 1 there is none, and one that is refused by 2 is too long for a list.
-fn replay_contents(rt: &impl Print) -> io::Result<bool> {
-    let mut all = true;
-    for answer in [0, 3, 4, 5, 6, 7, 8] {
-        let counts = contents::replayed(&tables::WRITES, answer);
-        all &= line(rt, "written", answer, counts)?;
+    for answer in answers {
+        all &= line(rt, word, *answer, counts(*answer))?;
     }
     Ok(all)
 }
 
 fn main(rt: HostRuntime) -> io::Result<()> {
-    let sheets = replay_sheets(&rt)?;
-    let contents = replay_contents(&rt)?;
+    let sheets = replay(&rt, "read", &[0, 1, 2, 3, 4, 5, 6, 7], |answer| {
+        sheets::replayed(&tables::SHEETS, answer)
+    })?;
+    // No content is refused by 1, and one that is refused by 2 is too long for a list.
+    let contents = replay(&rt, "written", &[0, 3, 4, 5, 6, 7, 8], |answer| {
+        contents::replayed(&tables::WRITES, answer)
+    })?;
     if sheets && contents {
         println!(rt; "all agree")
     } else {

@@ -1,8 +1,8 @@
 // Whether the reader answers as a list's rows say. A row is the answer, 0 where the sheet is accepted, the sheet's length, how many changes of the base there are, and each change. All are numbers of the table, answers too.
 ghost use Rattle.std.specs.Prelude.{length};
-ghost use Rattle.std.specs.Iterator.{at_most};
+ghost use Rattle.std.specs.Iterator.{at_most, IsFinite};
 
-use crate::contents;
+use crate::contents::Accepted;
 use crate::tables::BASE;
 
 // More than the longest sheet of the list has.
@@ -15,6 +15,21 @@ pub struct Counts {
     pub agree: usize,
 }
 
+impl Counts {
+    // Of rows, by whether each agrees. The counts saturate, so that no bound on the rows is asked.
+    pub fn of<I: Iterator<Item = bool>>(rows: I) -> Counts
+        requires can { I.can_next rows }
+        requires ends { IsFinite (I.remaining rows) }
+    {
+        let mut counts = Counts { all: 0, agree: 0 };
+        for agrees in rows {
+            counts.all = counts.all.saturating_add(1);
+            counts.agree = counts.agree.saturating_add(usize::from(agrees));
+        }
+        counts
+    }
+}
+
 // `changes` is none where the table ends before them.
 #[derive(Clone, Copy)]
 struct Row<'a> {
@@ -23,7 +38,7 @@ struct Row<'a> {
     changes: Option<&'a [u32]>,
 }
 
-// The rows that a table has left.
+// The rows that a table has left. A table is a flat list with a length before each run of changes: `[(u32, usize, &[u32]); 238]` proves but for the function that names the table, whose check runs out of steps.
 #[derive(Clone, Copy)]
 struct Rows<'a>(&'a [u32]);
 
@@ -55,9 +70,9 @@ fn put_changes(out: &mut [u8], changes: &[u32]) {
 
 // An accepted sheet is written again too.
 fn is_answered(sheet: &[u8], answer: u32) -> bool {
-    match sheet::check_sheet(sheet) {
+    match Accepted::check(sheet) {
         Err(refusal) => refusal.number() == answer,
-        Ok(header) => answer == 0 && contents::is_written_again(sheet, header),
+        Ok(sheet) => answer == 0 && sheet.is_written_again(),
     }
 }
 
@@ -72,11 +87,7 @@ fn agrees(row: Row) -> bool {
     front.is_some_and(|front| is_answered(front, row.answer))
 }
 
+// How many rows have this answer, and how many of them agree.
 pub fn replayed(table: &[u32], answer: u32) -> Counts {
-    Counts {
-        all: Rows(table).filter(|row| row.answer == answer).count(),
-        agree: Rows(table)
-            .filter(|row| row.answer == answer && agrees(*row))
-            .count(),
-    }
+    Counts::of(Rows(table).filter(|row| row.answer == answer).map(agrees))
 }

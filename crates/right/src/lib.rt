@@ -1,15 +1,15 @@
-// The right side: what the held vertices push on the free ones, and their own values. Vertex numbers and tags are words of the lent lists: an index is widened by `as usize`, and a vertex whose
-// tag is none of the three is held at 0, as the definitions say. The numbers, the tags or the mesh, and a triangle are parameters: a struct round the numbers would carry their length, and owe in
-// each function a clause that it lends the same ones.
+// The right side: what the held vertices push on the free ones, and their own values.
+// Vertex numbers and tags are words of the lent lists; an index is widened by `as usize`, since no `From` leads from u32 to usize.
+// A tag is a number, as it stands in the words; `held_at` says what a vertex with it is.
+// The numbers, the tags or the mesh, and a triangle are parameters: a struct round the numbers would carry their length, and owe in each function a clause that it lends the same ones.
 #![tactic(auto)]
 
 ghost use Rattle.std.specs.Prelude.{◌≡◌, ◌<◌, length};
-ghost use Rattle.binary64.specs.Arith.{◌⊖◌, ◌⊗◌};
 ghost use Rattle.laplace.specs.Mesh.{held_value};
 ghost use Rattle.laplace.specs.Assembly as Assembly;
 ghost use Rattle.laplace.specs.Element as Element;
-ghost use Rattle.laplace.specs.Element.{Within};
 ghost use Rattle.laplace.specs.Elements.{AreElements, pushes_of};
+ghost use Rattle.laplace.specs.Matrix.{AllBelow};
 ghost use Rattle.laplace.specs.Right as Right;
 
 use laplace::element::{Elements, Side, Stiff, Triangle};
@@ -26,11 +26,15 @@ pub fn held_value(tag: u32) -> f64
     0.0
 }
 
-// A number less v times the value of a tag.
-fn lowered(y: f64, v: f64, tag: u32) -> f64
-    ensures { result ≡ y ⊖ v ⊗ held_value tag }
+// The same, and none where the vertex is free.
+#[tactic(auto, unfolding(laplace::specs::Right::held_at))]
+fn held_at(tag: u32) -> Option<f64>
+    ensures { result ≡ Right.held_at tag }
 {
-    y - v * held_value(tag)
+    if tag == FREE {
+        return None;
+    }
+    Some(held_value(tag))
 }
 
 // A push of vertex i on vertex j: where one is free and the other held, it lowers the free one's number, for one of the two places of the pair.
@@ -43,47 +47,53 @@ fn couple(right: &mut [f64], tags: &[u32], i: u32, j: u32, v: f64)
     }
     let p = i as usize;
     let q = j as usize;
-    match (tags[p], tags[q]) {
-        (FREE, FREE) => {}
-        (FREE, tag) => right[p] = lowered(right[p], v, tag),
-        (tag, FREE) => right[q] = lowered(right[q], v, tag),
-        _ => {}
+    // Each arm by its name: an arm `_` has no fact of the two.
+    match (held_at(tags[p]), held_at(tags[q])) {
+        (None, Some(x)) => right[p] = right[p] - v * x,
+        (Some(x), None) => right[q] = right[q] - v * x,
+        (None, None) => {}
+        (Some(_), Some(_)) => {}
     }
 }
 
 // The three pushes of one corner, which is vertex v.
 fn couple_side(right: &mut [f64], tags: &[u32], v: u32, q: Triangle, s: Side)
-    requires { (v < length tags.now) × Within (length tags.now) q × (length right.old ≡ length tags.now) }
+    requires { (v < length tags.now) × AllBelow (length tags.now) q × (length right.old ≡ length tags.now) }
     ensures { right.new ≡ Assembly.all_coupled held_value tags.now (Right.side_pushes v q s) right.old }
 {
-    couple(right, tags, v, q.i, s.i);
-    couple(right, tags, v, q.j, s.j);
-    couple(right, tags, v, q.k, s.k);
+    for (&j, &x) in q.iter().zip(&s) {
+        couple(right, tags, v, j, x);
+    }
 }
 
 // The nine pushes of a triangle.
 fn couple_sides(right: &mut [f64], tags: &[u32], q: Triangle, s: Stiff)
-    requires { Within (length tags.now) q × (length right.old ≡ length tags.now) }
+    requires { AllBelow (length tags.now) q × (length right.old ≡ length tags.now) }
     ensures { right.new ≡ Assembly.all_coupled held_value tags.now (Right.stiff_pushes q (Some s)) right.old }
 {
-    couple_side(right, tags, q.i, q, s.side(0));
-    couple_side(right, tags, q.j, q, s.side(1));
-    couple_side(right, tags, q.k, q, s.side(2));
+    for (corner, &v) in q.iter().enumerate() {
+        couple_side(right, tags, v, q, s.side(corner));
+    }
 }
 
 // Whether the corners of a triangle are free.
+#[tactic(auto, using(laplace::proofs::LawsCorners::below_at))]
 fn is_free(tags: &[u32], q: Triangle) -> bool
-    requires { Within (length tags.now) q }
+    requires { AllBelow (length tags.now) q }
     ensures { result ≡ Right.all_free tags.now q }
 {
-    // Without a branch: all three are read and compared.
-    let (i, j, k) = (tags[q.i as usize], tags[q.j as usize], tags[q.k as usize]);
+    // All three are read and compared, without a branch. No fold over the corners: its closure asks at each turn that the corner has a tag, and that was not proved (`CallableAtEachTurn`).
+    let (i, j, k) = (
+        tags[q[0] as usize],
+        tags[q[1] as usize],
+        tags[q[2] as usize],
+    );
     (i == FREE) & (j == FREE) & (k == FREE)
 }
 
 // Those of the triangle q of the mesh: nothing where its corners are free, or where it is skipped.
 fn couple_triangle(right: &mut [f64], mesh: &Elements, q: Triangle)
-    requires { AreElements mesh.now × Within (length mesh.now.tags.now) q × (length right.old ≡ length mesh.now.tags.now) }
+    requires { AreElements mesh.now × AllBelow (length mesh.now.tags.now) q × (length right.old ≡ length mesh.now.tags.now) }
     ensures { right.new ≡ Assembly.all_coupled held_value mesh.now.tags.now (Right.stiff_pushes q (Element.stiff_in mesh.now.flat mesh.now.vertices.now q)) right.old }
 {
     if is_free(mesh.tags, q) {
@@ -99,22 +109,17 @@ fn couple_all(right: &mut [f64], mesh: &Elements)
     requires { AreElements mesh.now × (length right.old ≡ length mesh.now.tags.now) }
     ensures { right.new ≡ Assembly.all_coupled held_value mesh.now.tags.now (pushes_of mesh.now) right.old }
 {
-    // By number, since a mesh gives its triangles by their numbers.
-    for i in 0..mesh.triangles.len() / 3 {
-        let q = mesh.triangle(i);
+    for &q in mesh.triangles.as_chunks().0 {
         couple_triangle(right, mesh, q);
     }
 }
 
 // The number of a free vertex, and the value of a held one.
-#[tactic(auto, unfolding(laplace::specs::Right::settled_value))]
+#[tactic(auto, unfolding(laplace::specs::Right::settled_value, laplace::specs::Right::held_at))]
 fn settled_value(tag: u32, y: f64) -> f64
     ensures { result ≡ Right.settled_value tag y }
 {
-    if tag == FREE {
-        return y;
-    }
-    held_value(tag)
+    held_at(tag).unwrap_or(y)
 }
 
 // Held vertices have their value.
@@ -122,6 +127,7 @@ fn settle(right: &mut [f64], tags: &[u32])
     requires { length right.old ≡ length tags.now }
     ensures { right.new ≡ Assembly.settled held_value tags.now right.old }
 {
+    // A tag by its index: of what a zip with `iter_mut` writes, only the length is known.
     for (i, value) in right.iter_mut().enumerate() {
         *value = settled_value(tags[i], *value);
     }

@@ -3,11 +3,12 @@ ghost use Rattle.std.specs.Prelude.{◌≡◌, ◌+◌, ◌<◌, ◌≤◌, leng
 ghost use Rattle.binary64.specs.Constants.{plus_zero};
 ghost use Rattle.stretch.specs.Stretch.{splice};
 ghost use Rattle.laplace.specs.Rows as Rows;
-ghost use Rattle.rows.specs.Buffers.{SameRow, SameBuilder, IsReady, PutsRow, PutsRows};
+ghost use Rattle.rows.specs.Buffers.{SameRow, SameBuilder, IsReady, Restores, PutsRow, PutsRows};
 
 use crate::row::{Corners, Row};
 
 // A matrix that is built, row behind row: where each row starts among the entries, and the columns and the values of the `count` entries.
+// Two lists and not one of entries, since columns are lent among the words and values among the floats; a count and no `Vec`, since there is no heap.
 #[derive(Drop)]
 pub struct Builder<'a> {
     pub starts: &'a mut [u32],
@@ -38,8 +39,7 @@ impl Builder<'_> {
     // Row r put behind the others.
     fn put_row(&mut self, row: &mut Row, corners: &Corners, r: usize)
         requires { IsReady corners.now.mesh row.old self.old × (r < length corners.now.mesh.tags.now) × (self.old.count + length (Rows.row_of corners.now.mesh r) ≤ Rows.room_of corners.now.mesh) }
-        ensures same { SameBuilder self.old self.new × SameRow row.old row.new }
-        ensures row { (row.new.values.now ≡ row.old.values.now) × (row.new.cols.now ≡ row.old.cols.now) × (row.new.count ≡ 0) }
+        ensures row { Restores row.old row.new }
         ensures put { PutsRow self.old self.new r (Rows.row_of corners.now.mesh r) }
     {
         row.fill(corners, r);
@@ -50,8 +50,7 @@ impl Builder<'_> {
     // All rows, into an empty matrix.
     pub fn fill(&mut self, row: &mut Row, corners: &Corners)
         requires { IsReady corners.now.mesh row.old self.old × (self.old.count ≡ 0) }
-        ensures same { SameBuilder self.old self.new × SameRow row.old row.new }
-        ensures row { (row.new.values.now ≡ row.old.values.now) × (row.new.cols.now ≡ row.old.cols.now) × (row.new.count ≡ 0) }
+        ensures row { Restores row.old row.new }
         ensures put { PutsRows self.old self.new (Rows.rows_of corners.now.mesh (length corners.now.mesh.tags.now)) }
     {
         self.starts[0] = 0;

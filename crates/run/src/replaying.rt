@@ -45,7 +45,7 @@ fn turn(
     perform(run, call, &mut floats[..f], &words[..w], &mut path[..p])
 }
 
-// A list of calls, six numbers each: kind, k, one that is not read, and how many floats, words and places of the path are lent. Each call's refusal goes to its place of said, which is found by index: of what a zip with `iter_mut` writes a proof knows nothing.
+// A list of calls, six numbers each: kind, k, one that is not read, and how many floats, words and places of the path are lent. Each call's refusal goes to its place of said by its number, 0 for none, as a list of calls is answered; the place is found by index: of what a zip with `iter_mut` writes a proof knows nothing.
 pub fn make(
     run: Run,
     calls: &[u32],

@@ -1,16 +1,16 @@
 -- The steps of a sheet's check: what refuses sections 1 to 4, and what section 5 answers (document 01, section Sheet). Definitions only.
 -- Assumes nothing.
-use Rattle.std.specs.Prelude.{ℕ, zero, suc, ◌≤◌, ◌≡◌, List, map, Result, Ok, Err}
+use Rattle.std.specs.Prelude.{ℕ, zero, suc, ◌*◌, ◌≤◌, ◌≡◌, List, map, take, drop, Result, Ok, Err}
 use Rattle.refusal.specs.Refusal.{number_of}
 use Rattle.refusal.specs.declared.Refusal.{Refusal}
 use Rattle.format.specs.declared.Settings.{Settings}
-use Rattle.format.specs.Content.{max_vertices, max_triangles}
 use Rattle.format.specs.Refusal.{◌then◌, over, unlike}
 use Rattle.format.specs.Sheet.{item_setting, in_turn, no_settings, gathered, count, behind, from2, from3, from4, from5, items_in, vertices_fault, triangles_fault, neighbours_fault, tags_fault, settings_fault}
 use Rattle.sections.specs.declared.Rule.{Rule}
 use Rattle.sections.specs.declared.Rule.TheVariants.{AtMost, Exactly}
 use Rattle.sections.specs.declared.Section.{Section}
-use Rattle.sections.specs.declared.Mesh.{Mesh}
+use Rattle.sections.specs.declared.mesh.Mesh.{Mesh}
+use Rattle.sections.specs.declared.Last.{Last}
 
 -- ---- a section
 
@@ -24,10 +24,11 @@ abbrev pub most : Rule → ℕ
 most (AtMost limit) = limit
 most (Exactly expected) = expected
 
--- what a section of items of `size` bytes hands on: its count, and the sheet behind it
+-- what a section of items of `size` bytes hands on: its count, its items, and the sheet behind it
 pub record Follows (high size : ℕ) (s : List ℕ) (r : Section) : Type 0 where
   pub counted : r.count ≡ count s
   pub few : r.count ≤ high
+  pub items : r.items.now ≡ take (size * count s) (drop 4 s)
   pub next : r.behind.now ≡ behind size s
 
 -- ---- sections 1 to 4
@@ -39,12 +40,10 @@ mesh_fault b =
     then neighbours_fault (count (from2 b)) (from3 b)
     then tags_fault (count b) (from4 b)
 
--- what they hand on
+-- what they hand on; that n and t are no more than a sheet may have is in the type
 pub record Holds (b : List ℕ) (m : Mesh) : Type 0 where
   pub n : m.n ≡ count b
   pub t : m.t ≡ count (from2 b)
-  pub vertices : m.n ≤ max_vertices
-  pub triangles : m.t ≤ max_triangles
   pub next : m.behind.now ≡ from5 b
 
 -- ---- section 5
@@ -58,6 +57,11 @@ pub data Items : Type 0 where
 abbrev pub items_of : Result Settings Refusal → Items
 items_of (Ok s) = Read s
 items_of (Err r) = Refused (number_of r)
+
+-- what section 5 answers
+abbrev pub last_of : Result Last Refusal → Items
+last_of (Ok r) = Read r.settings
+last_of (Err r) = Refused (number_of r)
 
 abbrev pub items_by : ℕ → Settings → Items
 items_by zero s = Read s

@@ -1,5 +1,5 @@
 // The way to another place: from where it is sought, what stands there, and passes up to it.
-// Floats and path are two parameters, so that `&` and `&mut` say which of them a function writes (work's `Laid`). What is asked of the stand that C hands over stands in clauses (`Erasable`). `keep` reads no words and takes the plan alone.
+// Floats and path are two parameters, so that `&` and `&mut` say which of them a function writes (work's `Laid`). What is asked of the stand that C hands over stands in clauses (`Erasable`). `keep` reads no words and takes the counts alone.
 // Ends are numbers, as in `work::Stand`; the front is cut out of the floats, which are lent whole.
 #![tactic(auto)]
 
@@ -11,14 +11,18 @@ ghost use Rattle.work.specs.Memory.{work, origin_of, from_mark, pathless, gradie
 ghost use Rattle.work.specs.Ready.{Ready, Comes};
 ghost use Rattle.work.specs.Seek.{Erasable, Rewinds, Seeks};
 
-use work::{Kept, Laid, Origin, Plan, Stand, place};
+use work::{Counted, Kept, Laid, Origin, Stand, place};
 
-// The place at which solving ended: each pass adds a norm to the first, but for the one that ends with 2.
+// The place at which solving ended: each pass adds a norm to the first, but for the one that halts.
 fn solved_at(norms: usize, end: usize) -> usize
     requires { 1 ≤ norms }
     ensures { result ≡ solved_at norms end }
 {
-    if end == 2 { norms } else { norms - 1 }
+    if end == Stand::HALTED {
+        norms
+    } else {
+        norms - 1
+    }
 }
 
 // The kept vectors serve where they are not past the target and their field had no end.
@@ -40,10 +44,11 @@ fn origin(limit: usize, stand: Stand, mark: Option<Kept>, target: usize) -> Orig
     if stand.place <= target {
         return Origin::Here;
     }
-    if stand.end == 0 {
+    if !stand.is_solved() {
         return from_mark(limit, mark, target);
     }
     let at = solved_at(stand.norms, stand.end);
+    // By two tests, which the answer names as they are: a `match` on `cmp` proves too, but an answer that names a fact would first have to turn its order into a comparison, by a law.
     if at < target {
         return Origin::Started;
     }
@@ -62,19 +67,24 @@ fn erase_path(path: &mut [f64], stand: Stand)
 }
 
 fn erase_gradients(floats: &mut [f64], laid: &Laid)
-    requires { at_norms laid.now.plan.n laid.now.plan.t ≤ length floats.old }
-    ensures { floats.new ≡ gradients_erased laid.now.plan floats.old }
+    requires { at_norms laid.now.counted.plan.n laid.now.counted.plan.t ≤ length floats.old }
+    ensures { floats.new ≡ gradients_erased laid.now.counted.plan floats.old }
 {
-    stretch::fill(floats, laid.plan.at_gradients(), 2 * laid.plan.t, 0.0);
+    stretch::fill(
+        floats,
+        laid.counted.at_gradients(),
+        2 * laid.counted.plan.t,
+        0.0,
+    );
 }
 
 // The norms from k on are +0 again.
 fn erase_norms(floats: &mut [f64], laid: &Laid, stand: Stand, k: usize)
-    requires { at_norms laid.now.plan.n laid.now.plan.t + stand.norms ≤ length floats.old }
-    ensures { floats.new ≡ norms_erased laid.now.plan stand k floats.old }
+    requires { at_norms laid.now.counted.plan.n laid.now.counted.plan.t + stand.norms ≤ length floats.old }
+    ensures { floats.new ≡ norms_erased laid.now.counted.plan stand k floats.old }
 {
     if k < stand.norms {
-        stretch::fill(floats, laid.plan.at_norms() + k, stand.norms - k, 0.0);
+        stretch::fill(floats, laid.counted.at_norms() + k, stand.norms - k, 0.0);
     }
 }
 
@@ -90,8 +100,8 @@ fn at_field_end(stand: Stand) -> Stand
 // Back to where the field ended.
 #[tactic(auto, unfolding(work::specs::Memory::to_solved))]
 fn to_solved(floats: &mut [f64], path: &mut [f64], laid: &Laid, stand: Stand) -> Stand
-    requires { Erasable laid.now.plan stand floats.old path.old }
-    ensures { Comes (Memory.to_solved laid.now.plan (work floats.old path.old stand)) result floats.new path.new }
+    requires { Erasable laid.now.counted.plan stand floats.old path.old }
+    ensures { Comes (Memory.to_solved laid.now.counted.plan (work floats.old path.old stand)) result floats.new path.new }
 {
     erase_gradients(floats, laid);
     erase_path(path, stand);
@@ -100,26 +110,26 @@ fn to_solved(floats: &mut [f64], path: &mut [f64], laid: &Laid, stand: Stand) ->
 
 // Back to where the path started: the start is found again, and the gradients stand as they are.
 fn to_started(floats: &mut [f64], path: &mut [f64], laid: &Laid, stand: Stand) -> Stand
-    requires { Erasable laid.now.plan stand floats.old path.old }
-    ensures { Comes (Memory.to_started laid.now.plan laid.now.words.now (work floats.old path.old stand)) result floats.new path.new }
+    requires { Erasable laid.now.counted.plan stand floats.old path.old }
+    ensures { Comes (Memory.to_started laid.now.counted.plan laid.now.words.now (work floats.old path.old stand)) result floats.new path.new }
 {
     erase_path(path, stand);
     let s = at_field_end(stand);
-    let f = laid.plan.at_norms();
+    let f = laid.counted.at_norms();
     let d = kinds::start_step(&floats[..f], laid, s);
-    pass::deliver(floats, path, laid.plan, s, d.gives);
+    pass::deliver(floats, path, laid.counted, s, d.gives);
     d.stand
 }
 
 // Back to the kept vectors, whose field had no end.
 fn to_kept(floats: &mut [f64], path: &mut [f64], laid: &Laid, stand: Stand, k: Kept) -> Stand
-    requires { Erasable laid.now.plan stand floats.old path.old }
-    ensures { Comes (Memory.to_kept laid.now.plan k (work floats.old path.old stand)) result floats.new path.new }
+    requires { Erasable laid.now.counted.plan stand floats.old path.old }
+    ensures { Comes (Memory.to_kept laid.now.counted.plan k (work floats.old path.old stand)) result floats.new path.new }
 {
-    let plan = laid.plan;
-    let from = plan.at_kept();
-    let to = plan.at_x();
-    stretch::copy(floats, from, to, 3 * plan.n);
+    let counted = laid.counted;
+    let from = counted.at_kept();
+    let to = counted.at_x();
+    stretch::copy(floats, from, to, 3 * counted.plan.n);
     erase_gradients(floats, laid);
     erase_norms(floats, laid, stand, k.norms);
     erase_path(path, stand);
@@ -128,13 +138,13 @@ fn to_kept(floats: &mut [f64], path: &mut [f64], laid: &Laid, stand: Stand, k: K
 
 // The floats of place 0; answers r·r. Apart from opening's `begin`, which has the same tail: this erases norms in between.
 fn rewind(floats: &mut [f64], laid: &Laid, stand: Stand) -> f64
-    requires { (1 ≤ stand.norms) × (at_norms laid.now.plan.n laid.now.plan.t + stand.norms ≤ length floats.old) }
-    ensures { Rewinds laid.now.plan laid.now.words.now stand floats.old result floats.new }
+    requires { (1 ≤ stand.norms) × (at_norms laid.now.counted.plan.n laid.now.counted.plan.t + stand.norms ≤ length floats.old) }
+    ensures { Rewinds laid.now.counted.plan laid.now.words.now stand floats.old result floats.new }
 {
-    let rs = work::vectors::begin(floats, laid.words, laid.plan);
+    let rs = work::vectors::begin(floats, laid.words, laid.counted);
     erase_gradients(floats, laid);
     erase_norms(floats, laid, stand, 0);
-    let k = laid.plan.at_norms();
+    let k = laid.counted.at_norms();
     floats[k] = root::sqrt(rs);
     rs
 }
@@ -142,18 +152,18 @@ fn rewind(floats: &mut [f64], laid: &Laid, stand: Stand) -> f64
 // Back to place 0: the vectors are begun again.
 #[tactic(auto, unfolding(work::specs::Memory::to_zero))]
 fn to_zero(floats: &mut [f64], path: &mut [f64], laid: &Laid, stand: Stand) -> Stand
-    requires { Erasable laid.now.plan stand floats.old path.old }
-    ensures { Comes (Memory.to_zero laid.now.plan laid.now.words.now (work floats.old path.old stand)) result floats.new path.new }
+    requires { Erasable laid.now.counted.plan stand floats.old path.old }
+    ensures { Comes (Memory.to_zero laid.now.counted.plan laid.now.words.now (work floats.old path.old stand)) result floats.new path.new }
 {
     let rs = rewind(floats, laid, stand);
     erase_path(path, stand);
-    place::pathless(0, rs, 1, place::first_end(laid.plan.limit))
+    place::pathless(0, rs, 1, place::first_end(laid.counted.plan.limit))
 }
 
 // Each of the ways back, no chain of calls: which is next depends on the stand that the last one left.
 fn from_origin(floats: &mut [f64], path: &mut [f64], laid: &Laid, stand: Stand, o: Origin) -> Stand
-    requires { Erasable laid.now.plan stand floats.old path.old }
-    ensures { Comes (Memory.from_origin laid.now.plan laid.now.words.now o (work floats.old path.old stand)) result floats.new path.new }
+    requires { Erasable laid.now.counted.plan stand floats.old path.old }
+    ensures { Comes (Memory.from_origin laid.now.counted.plan laid.now.words.now o (work floats.old path.old stand)) result floats.new path.new }
 {
     match o {
         Origin::Here => stand,
@@ -173,10 +183,10 @@ pub fn seek(
     mark: Option<Kept>,
     target: usize,
 ) -> Stand
-    requires { Seeks laid.now.plan laid.now.words.now stand mark target floats.old path.old }
-    ensures { Comes (Memory.seek laid.now.plan laid.now.words.now mark target (work floats.old path.old stand)) result floats.new path.new }
+    requires { Seeks laid.now.counted.plan laid.now.words.now stand mark target floats.old path.old }
+    ensures { Comes (Memory.seek laid.now.counted.plan laid.now.words.now mark target (work floats.old path.old stand)) result floats.new path.new }
 {
-    let o = origin(laid.plan.limit, stand, mark, target);
+    let o = origin(laid.counted.plan.limit, stand, mark, target);
     let s = from_origin(floats, path, laid, stand, o);
     let k = target - s.place;
     pass::go(floats, path, laid, s, k)
@@ -184,11 +194,11 @@ pub fn seek(
 
 // The mark's copy of the vectors.
 #[tactic(auto, unfolding(work::specs::Memory::kept_floats))]
-pub fn keep(floats: &mut [f64], plan: Plan)
-    requires { (plan.n ≤ 4096) × (plan.t ≤ 8192) × (plan.limit ≤ 100000) × (at_kept plan.n plan.t plan.limit + 3 * plan.n ≤ length floats.old) }
-    ensures { floats.new ≡ kept_floats plan floats.old }
+pub fn keep(floats: &mut [f64], counted: Counted)
+    requires { (counted.plan.limit ≤ 100000) × (at_kept counted.plan.n counted.plan.t counted.plan.limit + 3 * counted.plan.n ≤ length floats.old) }
+    ensures { floats.new ≡ kept_floats counted.plan floats.old }
 {
-    let src = plan.at_x();
-    let at = plan.at_kept();
-    stretch::copy(floats, src, at, 3 * plan.n);
+    let src = counted.at_x();
+    let at = counted.at_kept();
+    stretch::copy(floats, src, at, 3 * counted.plan.n);
 }

@@ -9,7 +9,7 @@ use lib.ListN.{length}
 use Rattle.binary64.specs.Number.{pick}
 use Rattle.format.specs.Content.{Content, vertex_count, triangle_count}
 use Rattle.format.specs.Place.{placed}
-use Rattle.format.specs.Refusal.{◌then◌, present, refusal_of}
+use Rattle.format.specs.Refusal.{◌then◌, refusal_of}
 use Rattle.format.specs.Sheet.{bytes_of}
 use Rattle.format.specs.PlaceLaws.{placed-front}
 use Rattle.format.specs.RefusalLaws.{then_second, pick_true, pick_false}
@@ -21,7 +21,7 @@ use Rattle.refusal.specs.declared.Refusal.{Refusal}
 use Rattle.format.specs.TriesLaws as tries
 use Rattle.sheet.specs.Answer.{Checked, Accepted, checked_by}
 use Rattle.sheet.specs.Answer as answer
-use Rattle.sheet.specs.Write.{Written, Bytes, Refused, write_refusal, written_by, buffer_by, Writes}
+use Rattle.sheet.specs.Write.{Written, Bytes, Refused, write_refusal, written_by, buffer_by, Small, Writes}
 
 -- ---- a sheet that is checked
 
@@ -33,14 +33,6 @@ refused e {a} h p = go (number_of e) (tries.refused e) ∙ ap (λ (n : ℕ). che
     go (suc k) z = refl
 
 -- ---- a sheet that is written
-
--- a content that is not refused is small
-pub record Small (c : Content) : Type 0 where
-  pub pairs : length c.vertices ≤ 8192
-  pub triples : length c.triangles ≤ 24576
-  pub edges : length c.neighbours ≤ 24576
-  pub tagged : length c.tags ≤ 4096
-  pub settings : length (present c.settings) ≤ 6
 
 pub small : (c : Content) → 0 ≡ refusal_of c → Small c
 small c e =

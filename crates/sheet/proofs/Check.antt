@@ -1,52 +1,40 @@
 -- The whole check: its steps are the links of `fault_of`, its places those of the sections, and its answer that of `parse`. Assumes nothing.
-use Prim.Native.Nat.{ℕ, zero, suc, ◌+◌, ◌*◌, ◌≤◌}
+use Prim.Native.Nat.{ℕ, zero, suc}
 use mathlib.Core.Path.{◌≡◌, refl, sym, ap, ap₂, ◌∙◌}
 use mathlib.Core.List.{List, map}
-use native.Mathlib.Omega.{arith}
 use borrow.Author.Tests.{eq-eqb, ne_eqb}
 use lib.Dec.{eqb}
 use lib.ListN.{length}
 use Rattle.binary64.specs.Number.{pick}
 use Rattle.format.specs.declared.Settings.{Settings}
 use Rattle.format.specs.Bytes.{number}
-use Rattle.format.specs.Content.{max_settings}
-use Rattle.format.specs.Refusal.{◌then◌, over, missing}
-use Rattle.format.specs.Sheet.{count, behind, from2, from3, from4, from5, leftover, items_in, item_setting, no_settings, gathered, content_of, vertices_fault, triangles_fault, neighbours_fault, tags_fault, settings_fault, fault_of, decide, parse}
+use Rattle.format.specs.Refusal.{◌then◌, missing}
+use Rattle.format.specs.Sheet.{count, from2, from3, from4, from5, leftover, items_in, item_setting, no_settings, gathered, content_of, vertices_fault, triangles_fault, neighbours_fault, tags_fault, settings_fault, fault_of, decide, parse}
 use Rattle.format.specs.RefusalLaws.{then_assoc, then_second, pick_true, pick_false}
-use Rattle.format.specs.SectionLaws.{Head, over-le}
-use Rattle.format.specs.SheetLaws.{settings_head, vertex_count_lem, triangle_count_lem, length-behind}
+use Rattle.format.specs.SheetLaws.{vertex_count_lem, triangle_count_lem}
 use Rattle.sheet.specs.declared.Header.{Header}
 use Rattle.refusal.specs.Refusal.{number_of}
 use Rattle.refusal.specs.declared.Refusal.{Refusal}
 use Rattle.format.specs.TriesLaws.{fault_first, fault_second}
 use Rattle.sections.specs.Steps as steps
-use Rattle.sheet.specs.Answer.{Checked, Accepted, Refused, header_by, header_of, checked_of, checked_by, finished, Whole5}
+use Rattle.sheet.specs.Answer.{Checked, Accepted, Refused, header_by, header_of, checked_of, checked_by, ended}
 use Rattle.sections.specs.Steps.{mesh_fault, items_by, settings_read}
 use Rattle.sheet.proofs.Answers as answers
 
 -- ---- the last tests
 
-module _ (n t : ℕ) (st : Settings) (s : List ℕ) (m : ℕ) (e : m ≡ count s) where
-  some_left : 4 + 9 * count s ≤ length s → (length s ≡ 4 + 9 * m → ⊥) → pick {A = ℕ} (eqb (length (behind 9 s)) 0) 0 1 ≡ 1
-  some_left l h = pick_false 0 1 (ne_eqb (length (behind 9 s)) 0 (λ z. h (omega (arith, length-behind 9 s))))
+module _ (n t : ℕ) (st : Settings) (s : List ℕ) where
+  pub end_left : (length s ≡ 0 → ⊥) → Refused 1 ≡ ended n t st s
+  end_left h = sym (ap (λ (k : ℕ). checked_by (k then missing st) (header_by n t st)) (pick_false 0 1 (ne_eqb (length s) 0 h)))
 
-  pub finish_left : 4 + 9 * count s ≤ length s → (length s ≡ 4 + 9 * m → ⊥) → Refused 1 ≡ finished n t st s
-  unfolding finished
-  finish_left l h =
-      sym (ap (λ (k : ℕ). checked_by (k then missing st) (header_by n t st)) (some_left l h))
+  none_left : length s ≡ 0 → pick {A = ℕ} (eqb (length s) 0) 0 1 ≡ 0
+  none_left h = pick_true 0 1 (eq-eqb _ _ h)
 
-  none_left : length s ≡ 4 + 9 * m → pick {A = ℕ} (eqb (length (behind 9 s)) 0) 0 1 ≡ 0
-  none_left h =
-      let f : length (behind 9 s) ≡ 0 = omega (arith, length-behind 9 s) in
-      pick_true 0 1 (eq-eqb _ _ f)
+  pub end_missing : (x : Refusal) → length s ≡ 0 → number_of x ≡ missing st → Refused (number_of x) ≡ ended n t st s
+  end_missing x h p = answers.refused x (header_by n t st) (p ∙ sym (then_second (missing st) (none_left h)))
 
-  pub finish_missing : (x : Refusal) → length s ≡ 4 + 9 * m → number_of x ≡ missing st → Refused (number_of x) ≡ finished n t st s
-  unfolding finished
-  finish_missing x h p = answers.refused x (header_by n t st) (p ∙ sym (then_second (missing st) (none_left h)))
-
-  pub finish_whole : (r : Header) → length s ≡ 4 + 9 * m → 0 ≡ missing st → r ≡ header_by n t st → Accepted r ≡ finished n t st s
-  unfolding finished
-  finish_whole r h p q = sym (ap₂ checked_by (then_second (missing st) (none_left h) ∙ sym p) (sym q))
+  pub end_whole : (r : Header) → length s ≡ 0 → 0 ≡ missing st → r ≡ header_by n t st → Accepted r ≡ ended n t st s
+  end_whole r h p q = sym (ap₂ checked_by (then_second (missing st) (none_left h) ∙ sym p) (sym q))
 
 -- ---- the answer
 
@@ -87,16 +75,9 @@ unfolding settings_read
 check_settings b x z p =
     answers.refused x (header_of (content_of b)) (fault_second _ z (fault_first x _ (items_refused _ _ _ p)) ∙ sym (fault_steps b)) ∙ sym (checked_by_lem b)
 
-pub settings-whole : (s : List ℕ) (st : Settings) (n t : ℕ) → n ≤ 4096 → t ≤ 8192 → steps.Read st ≡ settings_read s → Whole5 n t s
-unfolding settings_read
-settings-whole s st n t hn ht p =
-    let r : ItemsRead st (settings_fault s) (gathered no_settings (map item_setting (items_in s))) = items_read_lem _ _ _ p in
-    let h : Head (over max_settings) 9 s = settings_head s r.clean in
-    record { vertices = hn; triangles = ht; settings = over-le h.counted; fits = h.whole }
-
 pub check_last : (b : List ℕ) (n t : ℕ) (st : Settings) (r : Checked) → 0 ≡ mesh_fault b → n ≡ number 4 b → count (from2 b) ≡ t → steps.Read st ≡ settings_read (from5 b)
-    → r ≡ finished n t st (from5 b) → r ≡ checked_of (parse b)
-unfolding settings_read finished content_of
+    → r ≡ ended n t st (leftover b) → r ≡ checked_of (parse b)
+unfolding settings_read content_of
 check_last b n t st r z en et p q =
     let s : ItemsRead st (settings_fault (from5 b)) (gathered no_settings (map item_setting (items_in (from5 b)))) = items_read_lem _ _ _ p in
     let c : st ≡ (content_of b).settings = s.settings in

@@ -9,8 +9,11 @@ use lib.ListN.{length, get_or, take, drop}
 use Rattle.std.specs.Simd.{first_chunks}
 use Rattle.std.proofs.Common.{drop-drop}
 use Rattle.std.proofs.lemmas.List.{drop-take}
+use lib.Dec.{ltb}
+use mathlib.Core.Bool.{true, false}
+use Rattle.binary64.specs.Number.{pick}
 use Rattle.format.specs.Bytes.{number}
-use Rattle.format.specs.RefusalLaws.{pick_true}
+use Rattle.format.specs.RefusalLaws.{pick_true, pick_false}
 use Rattle.sheet.specs.Items.{whole_in}
 
 -- the i-th piece
@@ -50,6 +53,13 @@ module _ (v i : ℕ) (part : List ℕ) (items : List (List ℕ)) (item : List �
       ap (λ (p : List ℕ). number w (drop j p)) its_piece
       ∙ inside w v j (drop (v * i) part) l
       ∙ ap (number w) (drop-drop j (v * i) part ∙ ap (λ (m : ℕ). drop m part) q)
+
+-- what is answered where there is a piece, and where there is none; n pieces are as many as the part has room for
+pub an_item : {A : Type 0} (x y : A) (i n m : ℕ) → true ≡ ltb i n → n ≡ m → x ≡ pick (ltb i m) x y
+an_item x y i n m h e = sym (pick_true x y (sym (h ∙ ap (ltb i) e)))
+
+pub no_item : {A : Type 0} (x y : A) (i n m : ℕ) → false ≡ ltb i n → n ≡ m → y ≡ pick (ltb i m) x y
+no_item x y i n m h e = sym (pick_false x y (sym (h ∙ ap (ltb i) e)))
 
 -- a corner in the item of its triangle
 pub corner_in : (t j k : ℕ) (part : List ℕ) (items : List (List ℕ)) (item : List ℕ) → items ≡ first_chunks 12 (length part / 12) part → length items ≡ length part / 12 → t < length items

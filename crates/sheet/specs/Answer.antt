@@ -1,11 +1,11 @@
 -- What the calls on a sheet answer, by the definitions of the format (document 01, sections Sheet and Length, writer, program). Definitions only.
 -- Assumes nothing.
-use Rattle.std.specs.Prelude.{ℕ, zero, suc, ◌+◌, ◌*◌, ◌≤◌, List, eqb, length, Result, Ok, Err}
+use Rattle.std.specs.Prelude.{ℕ, zero, suc, ◌+◌, ◌*◌, List, eqb, length, Result, Ok, Err}
 use Rattle.binary64.specs.Number.{pick}
 use Rattle.format.specs.declared.Settings.{Settings}
-use Rattle.format.specs.Content.{Content, vertex_count, triangle_count, max_vertices, max_triangles, max_settings}
+use Rattle.format.specs.Content.{Content, vertex_count, triangle_count}
 use Rattle.format.specs.Refusal.{◌then◌, missing}
-use Rattle.format.specs.Sheet.{count, behind, Parsed, accepted, refused}
+use Rattle.format.specs.Sheet.{behind, Parsed, accepted, refused}
 use Rattle.sheet.specs.declared.Header.{Header}
 use Rattle.refusal.specs.Refusal.{number_of}
 use Rattle.refusal.specs.declared.Refusal.{Refusal}
@@ -46,13 +46,10 @@ abbrev pub checked_by : ℕ → Header → Checked
 checked_by zero h = Accepted h
 checked_by (suc k) h = Refused (suc k)
 
+-- s is what stands behind section 5
+abbrev pub ended : ℕ → ℕ → Settings → List ℕ → Checked
+ended n t st s = checked_by (pick (eqb (length s) 0) 0 1 then missing st) (header_by n t st)
+
 -- s is the sheet from section 5 on
 unfoldable pub finished : ℕ → ℕ → Settings → List ℕ → Checked
-finished n t st s = checked_by (pick (eqb (length (behind 9 s)) 0) 0 1 then missing st) (header_by n t st)
-
--- what the last tests need: the counts are within their limits, and section 5 is whole
-pub record Whole5 (n t : ℕ) (s : List ℕ) : Type 0 where
-  pub vertices : n ≤ max_vertices
-  pub triangles : t ≤ max_triangles
-  pub settings : count s ≤ max_settings
-  pub fits : 4 + 9 * count s ≤ length s
+finished n t st s = ended n t st (behind 9 s)

@@ -22,7 +22,7 @@ use Rattle.format.specs.SheetLaws.{Faultless, faultless, vertex_count_lem, trian
 use Rattle.sheet.specs.declared.Header.{Header}
 use Rattle.sheet.specs.Answer.{Accepted, Refused}
 use Rattle.sheet.specs.Answer.{header_of, checked_of}
-use Rattle.sheet.specs.Items.{real_in, vertex_in, whole_in}
+use Rattle.sheet.specs.Items.{real_in, vertex_in, coordinate_in, whole_in}
 
 -- ---- what an answer tells
 
@@ -154,6 +154,15 @@ module _ (b : List ℕ) (c : Content) (e : parse b ≡ accepted c) where
       let d : 16 * i + 8 ≡ 8 * (2 * i + 1) = omega arith in
       pick_true _ _ (lt-ltb i (length part / 16) q)
       ∙ ap₂ point (ap (λ (k : ℕ). real_in (number 8 (drop k part))) a ∙ x) (ap (λ (k : ℕ). real_in (number 8 (drop k part))) d ∙ y)
+
+  pub coordinate_item : (k : ℕ) → k < 2 * vertex_count c → coordinate_in (drop (header_of c).vertices b) k ≡ get_or c.vertices k plus_zero
+  unfolding coordinate_in content_of
+  coordinate_item k h =
+      let part = drop (header_of c).vertices b in
+      let w : 4 + 16 * vertex_count c ≤ length b = (header_within b c e).vertices in
+      let f : each coordinate_fault c.vertices ≡ 0 = subst (λ (d : Content). each coordinate_fault d.vertices ≡ 0) (reads b c e).content (accepted_faultless b c e).coordinates in
+      let q : k < length part / 8 = omega (arith, length-drop 4 b) in
+      pick_true _ _ (lt-ltb k (length part / 8) q) ∙ real_item part (vertex_count c) k c.vertices (content_holds b c e).vertices f h
 
   pub corner_item : (i : ℕ) → i < 3 * triangle_count c → whole_in (drop (header_of c).triangles b) i ≡ get_or c.triangles i 0
   corner_item i h =

@@ -20,6 +20,10 @@ vertex_in part i =
     (point (real_in (number 8 (drop (16 * i) part))) (real_in (number 8 (drop (16 * i + 8) part))))
     (point plus_zero plus_zero)
 
+-- the k-th coordinate
+unfoldable pub coordinate_in : List ℕ → ℕ → Float
+coordinate_in part k = pick (ltb k (length part / 8)) (real_in (number 8 (drop (8 * k) part))) plus_zero
+
 unfoldable pub whole_in : List ℕ → ℕ → ℕ
 whole_in part i = pick (ltb i (length part / 4)) (number 4 (drop (4 * i) part)) 0
 

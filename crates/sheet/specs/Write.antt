@@ -1,9 +1,9 @@
 -- What writing a sheet answers and leaves (document 01, Length, writer, program): the reader's refusals, then 8 where the buffer is shorter than the sheet. Definitions only.
 -- Assumes nothing.
-use Rattle.std.specs.Prelude.{ℕ, zero, suc, ◌≡◌, List, ◌++◌, leb, length, drop, Result, Ok, Err}
+use Rattle.std.specs.Prelude.{ℕ, zero, suc, ◌≡◌, ◌≤◌, List, ◌++◌, leb, length, drop, Result, Ok, Err}
 use Rattle.binary64.specs.Number.{pick}
 use Rattle.format.specs.Content.{Content}
-use Rattle.format.specs.Refusal.{◌then◌, refusal_of}
+use Rattle.format.specs.Refusal.{◌then◌, present, refusal_of}
 use Rattle.format.specs.Sheet.{bytes_of}
 use Rattle.refusal.specs.Refusal.{number_of}
 use Rattle.refusal.specs.declared.Refusal.{Refusal}
@@ -31,6 +31,14 @@ written_by (suc k) n = Refused (suc k)
 abbrev pub buffer_by : ℕ → List ℕ → List ℕ → List ℕ
 buffer_by zero bytes out = bytes ++ drop (length bytes) out
 buffer_by (suc k) bytes out = out
+
+-- a content that is not refused is small
+pub record Small (c : Content) : Type 0 where
+  pub pairs : length c.vertices ≤ 8192
+  pub triples : length c.triangles ≤ 24576
+  pub edges : length c.neighbours ≤ 24576
+  pub tagged : length c.tags ≤ 4096
+  pub settings : length (present c.settings) ≤ 6
 
 -- a buffer, what is answered, and the buffer after it
 pub record Writes (c : Content) (out : List ℕ) (answer : Written) (last : List ℕ) : Type 0 where

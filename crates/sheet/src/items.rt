@@ -4,7 +4,7 @@
 
 ghost use Rattle.std.specs.Prelude.{◌≡◌, get_or};
 ghost use Rattle.format.specs.Bytes.{number};
-ghost use Rattle.sheet.specs.Items.{real_in, vertex_in, whole_in, corners_in};
+ghost use Rattle.sheet.specs.Items.{real_in, vertex_in, coordinate_in, whole_in, corners_in};
 
 use plane::Point;
 
@@ -38,6 +38,17 @@ pub fn vertex(part: &[u8], i: usize) -> Point
     }
 }
 
+// The number at k, from section 1: x of vertex k / 2, or its y.
+pub fn coordinate(part: &[u8], k: usize) -> f64
+    ensures { result ≡ coordinate_in part.now k }
+{
+    let (items, _) = part.as_chunks::<8>();
+    match items.get(k) {
+        Some(item) => real(item),
+        None => 0.0,
+    }
+}
+
 // The number at i, from section 2: corner i % 3 of triangle i / 3.
 pub fn corner(part: &[u8], i: usize) -> u32
     ensures { result ≡ whole_in part.now i }
@@ -65,7 +76,7 @@ pub fn corners(part: &[u8], t: usize) -> Triple
     }
 }
 
-// The number at i, from section 3: the neighbour over edge i % 3 of triangle i / 3, −1 as the u32 with its bits.
+// The number at i, from section 3, read as a corner is: the neighbour over edge i % 3 of triangle i / 3, −1 as the u32 with its bits.
 pub fn neighbour(part: &[u8], i: usize) -> u32
     ensures { result ≡ whole_in part.now i }
 {

@@ -3,21 +3,19 @@
 
 pub mod items;
 
-ghost use Rattle.std.specs.Prelude.{◌≡◌, ◌+◌, ◌*◌, ◌≤◌, ◌<◌};
-ghost use Rattle.format.specs.Content.{max_vertices, max_triangles};
-ghost use Rattle.format.specs.Sheet.{parse};
-ghost use Rattle.sheet.specs.Answer.{header_by, checked, checked_of, finished, Whole5};
-ghost use Rattle.sheet.specs.Write.{lent, written, Writes};
+ghost use Rattle.std.specs.Prelude.{◌≡◌, ◌+◌, ◌*◌, ◌≤◌, ◌<◌, length};
+ghost use Rattle.format.specs.Sheet.{bytes_of, parse};
+ghost use Rattle.sheet.specs.Answer.{header_by, checked, checked_of, ended};
+ghost use Rattle.sheet.specs.Write.{lent, written, Small, Writes};
 
-use format::items::missing_fault;
 use format::{Content, Settings};
 use refusal::Refusal;
-use sections::Mesh;
+use sections::{Last, Mesh};
 use writing::present_count;
 use writing::putting::put_sheet;
 use writing::refusing::content_refusal;
 
-// What an accepted sheet has: n vertices, t triangles, where the items of sections 1 to 4 start, and its settings.
+// What an accepted sheet has: n vertices, t triangles, where the items of sections 1 to 4 start, and its settings. The four places are what C is told in the head, and C cuts the parts there.
 #[derive(Clone, Copy)]
 pub struct Header {
     pub n: usize,
@@ -29,10 +27,10 @@ pub struct Header {
     pub settings: Settings,
 }
 
-fn header_of(n: usize, t: usize, settings: Settings) -> Header
-    requires { (n ≤ max_vertices) × (t ≤ max_triangles) }
-    ensures { result ≡ header_by n t settings }
+fn header_of(mesh: Mesh, settings: Settings) -> Header
+    ensures { result ≡ header_by mesh.entry.n mesh.entry.t settings }
 {
+    let Mesh { n, t, .. } = mesh;
     Header {
         n,
         t,
@@ -45,17 +43,14 @@ fn header_of(n: usize, t: usize, settings: Settings) -> Header
 }
 
 // The last tests: nothing is left behind section 5, and no setting is missing.
-fn finish(mesh: Mesh, settings: Settings) -> Result<Header, Refusal>
-    requires { Whole5 mesh.n mesh.t mesh.behind.now }
-    ensures { checked result ≡ finished mesh.entry.n mesh.entry.t settings mesh.entry.behind.now }
+fn finish(mesh: Mesh, last: Last) -> Result<Header, Refusal>
+    ensures { checked result ≡ ended mesh.entry.n mesh.entry.t last.entry.settings last.entry.behind.now }
 {
-    let s = mesh.behind;
-    let m = sections::count(s);
-    if s.len() != 4 + 9 * m {
+    if !last.behind.is_empty() {
         return Err(Refusal::Length);
     }
-    missing_fault(settings)?;
-    Ok(header_of(mesh.n, mesh.t, settings))
+    last.settings.missing_fault()?;
+    Ok(header_of(mesh, last.settings))
 }
 
 // Whether s is a sheet.
@@ -63,8 +58,20 @@ pub fn check_sheet(s: &[u8]) -> Result<Header, Refusal>
     ensures { checked result ≡ checked_of (parse s.now) }
 {
     let mesh = sections::mesh_fault(s)?;
-    let settings = sections::settings(mesh.behind)?;
-    finish(mesh, settings)
+    let last = sections::settings(mesh.behind)?;
+    finish(mesh, last)
+}
+
+// How many bytes the sheet of a content has.
+fn size_of(content: &Content) -> usize
+    requires { Small (lent content.now) }
+    ensures { result ≡ length (bytes_of (lent content.now)) }
+{
+    20 + 8 * content.vertices.len()
+        + 4 * content.triangles.len()
+        + 4 * content.neighbours.len()
+        + content.tags.len()
+        + 9 * present_count(content.settings)
 }
 
 // The sheet of a content, from the front of out, and how many bytes it has.
@@ -72,13 +79,7 @@ pub fn write_sheet(content: &Content, out: &mut [u8]) -> Result<usize, Refusal>
     ensures { Writes (lent content.now) out.old (written result) out.new }
 {
     content_refusal(content)?;
-    let m = present_count(content.settings);
-    let size = 20
-        + 8 * content.vertices.len()
-        + 4 * content.triangles.len()
-        + 4 * content.neighbours.len()
-        + content.tags.len()
-        + 9 * m;
+    let size = size_of(content);
     if out.len() < size {
         return Err(Refusal::Space);
     }

@@ -4,5 +4,5 @@
 mod parts;
 mod path;
 
-pub use parts::{Part, Shown, counted, field, gradients, norms};
+pub use parts::{Part, Shown, field, gradients, norms};
 pub use path::{length, points};

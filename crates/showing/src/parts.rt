@@ -1,10 +1,9 @@
 // What a run shows of its field: parts of the lent floats, empty where n or T is past its most or the part past the buffer's end.
-ghost use Rattle.std.specs.Prelude.{◌≡◌, ◌&&◌, leb};
-ghost use Rattle.format.specs.Content.{max_vertices, max_triangles};
+ghost use Rattle.std.specs.Prelude.{◌≡◌};
 ghost use Rattle.image.specs.Parts as Parts;
 ghost use Rattle.showing.specs.Shown as Places;
 
-use work::{Plan, Run};
+use work::{Counted, Run};
 
 // What a run shows of its floats.
 #[derive(Clone, Copy)]
@@ -22,13 +21,6 @@ pub enum Shown {
 pub struct Part {
     pub at: usize,
     pub count: usize,
-}
-
-// Whether n and T are ones that a sheet may have.
-pub fn counted(plan: Plan) -> bool
-    ensures { result ≡ (leb plan.n max_vertices && leb plan.t max_triangles) }
-{
-    (plan.n <= format::MAX_VERTICES) & (plan.t <= format::MAX_TRIANGLES)
 }
 
 // What stands at a part of the floats. A start and a count of a record may have a sum that does not fit: so they are cut one after the other. Two `let else`, and no chain of `and_then` and `unwrap_or`: what the chain's closure gives, the search does not find.
@@ -51,20 +43,20 @@ impl Shown {
         ensures { result ≡ Places.part_of self run }
     {
         let plan = run.plan;
-        if !counted(plan) {
+        let Some(places) = Counted::of(plan) else {
             return Part { at: 0, count: 0 };
-        }
+        };
         match self {
             Shown::Field => Part {
-                at: plan.at_x(),
+                at: places.at_x(),
                 count: plan.n,
             },
             Shown::Norms => Part {
-                at: plan.at_norms(),
+                at: places.at_norms(),
                 count: run.stand.norms,
             },
             Shown::Gradients => Part {
-                at: plan.at_gradients(),
+                at: places.at_gradients(),
                 count: 2 * plan.t,
             },
         }
@@ -72,13 +64,14 @@ impl Shown {
 
     // What stands there.
     #[tactic(auto, using(crate::proofs::LawsParts::shown_within))]
-    fn of(self, run: Run, floats: &[f64]) -> &[f64]
+    pub fn of(self, run: Run, floats: &[f64]) -> &[f64]
         ensures { result.now ≡ Places.shown_of self run floats.now }
     {
         within(floats, self.part(run))
     }
 }
 
+// The three by name, as callers and contracts know them. The record and the buffer are two, as C lends them: what is shown is a part of the buffer alone.
 pub fn field(run: Run, floats: &[f64]) -> &[f64]
     ensures { result.now ≡ Parts.field_of run floats.now }
 {

@@ -1,13 +1,15 @@
--- Compressed rows as parts of two buffers: the same matrix, and sound where that is. Assumes nothing.
+-- Compressed rows as parts of two buffers: the same matrix, and sound where that is; and their product as a write. Assumes nothing.
 use Rattle.std.specs.Prelude.{◌≡◌, refl, ℕ, zero, suc, ◌+◌, ◌-◌, ◌≤◌, ◌<◌, List, length, get_or, Float}
 use Rattle.std.proofs.Common.{sym, ap, ◌∙◌, add-one, arith, length-append}
-use Rattle.stretch.specs.Stretch.{part}
+use Rattle.stretch.specs.Stretch.{part, splice, Wrote}
 use Rattle.stretch.specs.StretchLaws.{length_part, get_d_part, part_part}
 use Rattle.sparse.specs.Sparse.{mat_vec}
 use Rattle.sparse.specs.Stored.{CsrAt, start, end, matrix, Sound}
 use Rattle.sparse.specs.Stored as Stored
 use Rattle.sparse.specs.ByRows.{IsByRows, row_at, first_rows}
 use Rattle.sparse.specs.ProductLaws.{length-mat_vec}
+use Rattle.sparse.specs.declared.Matrix.{Matrix}
+use Rattle.sparse.specs.Matrix.{matrix_of, rows, Multiplied}
 
 pub length-first_rows : (starts cols : List ℕ) (values : List Float) (i : ℕ) → length (first_rows starts cols values i) ≡ i
 unfolding first_rows
@@ -16,6 +18,12 @@ length-first_rows starts cols values (suc i) = rw (length-append, length-first_r
 
 pub length-product : (starts cols : List ℕ) (values : List Float) (i : ℕ) (x : List Float) → length (mat_vec (first_rows starts cols values i) x) ≡ i
 length-product starts cols values i x = length-mat_vec (first_rows starts cols values i) x ∙ length-first_rows starts cols values i
+
+-- the product, put at a place of a buffer, as a write of its stretch
+pub wrote_product : {m : Matrix} {s l x out : List Float} {at : ℕ} {sum : Float} → at + rows m ≤ length s → l ≡ splice s at out → Multiplied m x out sum
+    → Wrote s l at (rows m) (mat_vec (matrix_of m) x)
+wrote_product {m} {s} {l} {x} {out} {at} fits put d =
+    record { is = put ∙ ap (λ (new : List Float). splice s at new) d.is; long = length-product m.starts.now m.cols.now m.values.now (rows m) x; fits = fits }
 
 -- ---- the parts of the two buffers
 
@@ -66,3 +74,11 @@ module _ (words : List ℕ) (floats : List Float) (m : CsrAt) (sound : Sound wor
         ends = λ i h. rw lc (rise i (omega arith)).1;
         row = record { as_many = lc ∙ sym lv; below = λ j h. let b = sound.below.at j (omega arith) in let g = get_d_part words m.cols m.count j 0 (omega arith) in omega arith };
       })
+
+  -- the product of such slices with a vector of the same buffer, put at a place of it
+  pub wrote_product_of_parts : {k : Matrix} {l out : List Float} {at : ℕ} {sum : Float} (p : ℕ) → k.starts.now ≡ part words m.starts (m.rows + 1) → k.cols.now ≡ part words m.cols m.count → k.values.now ≡ part floats m.vals m.count
+      → at + m.rows ≤ length floats → l ≡ splice floats at out → Multiplied k (part floats p m.rows) out sum → Wrote floats l at m.rows (mat_vec (matrix words floats m) (part floats p m.rows))
+  wrote_product_of_parts {k} {l} {out} {at} {sum} p es ec ev fits put d =
+      let n : rows k ≡ m.rows = let long = ap length es ∙ starts_long in omega arith in
+      let w = wrote_product {m = k} {s = floats} {at = at} (omega arith) put d in
+      rw (matrix_of_parts es ec ev, n) at w

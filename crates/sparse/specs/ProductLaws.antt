@@ -1,4 +1,4 @@
--- Lengths of a product, the product as a write, and a matrix read again from a buffer that has its values as before. Assumes nothing.
+-- Lengths of a product, and a matrix read again from a buffer that has its values as before. Assumes nothing.
 use Rattle.std.specs.Prelude.{◌≡◌, refl, List, [], ◌∷◌, ℕ, zero, suc, ◌+◌, ◌-◌, ◌≤◌, length, Float}
 use Rattle.std.proofs.Common.{sym, ap, ◌∙◌, add-one, arith, length-append}
 use Rattle.stretch.specs.Stretch.{part}

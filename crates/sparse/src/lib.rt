@@ -97,6 +97,13 @@ impl<'a> Matrix<'a> {
     ghost use Rattle.sparse.specs.Sparse.{mat_vec};
     ghost use Rattle.sparse.specs.Matrix.{matrix_of, rows, Multiplied};
 
+    // How many rows it has.
+    pub fn rows(&self) -> usize
+        ensures { result ≡ rows self.now }
+    {
+        self.starts.len() - 1
+    }
+
     // Element i of the product with x.
     pub fn row_product(&self, i: usize, x: &[f64]) -> f64
         requires { (i < rows self.now) × (length x.now ≡ rows self.now) }
@@ -112,7 +119,7 @@ impl<'a> Matrix<'a> {
         requires { (length x.now ≡ rows self.now) × (length out.old ≡ rows self.now) }
         ensures { Multiplied self.now x.now out.new result }
     {
-        // Locals, since a store to `out` could be one to the struct.
+        // Locals, since a store to `out` could be one to the struct. By number, since what is written through a zip with `iter_mut` is known by its length alone.
         let starts = self.starts;
         let cols = self.cols;
         let values = self.values;

@@ -6,13 +6,11 @@ use Prim.Native.Nat.{ℕ, ◌+◌, ◌≤◌, ◌<◌}
 use native.Mathlib.Numerals.{add-one}
 use lib.ListN.{length, drop, get_or, drop_of_length-le}
 use lib.Seq.{drop-cons}
-use lib.Ieee.{Float, nan, lt}
-use Rattle.binary64.specs.Arith.{◌⊘◌}
-use Rattle.binary64.specs.Constants.{plus_zero, one}
+use lib.Ieee.{Float, nan, lt, binary64, of_bits}
 use Rattle.pde.specs.Start.{least_from, least_vertex}
 use Rattle.pde.proofs.EdgeLaws.{infinite}
 
-pub least_all : (us : List Float) → least_vertex us ≡ least_from 0 0 (one ⊘ plus_zero) us
+pub least_all : (us : List Float) → least_vertex us ≡ least_from 0 0 (of_bits binary64 9218868437227405312) us
 unfolding least_vertex
 least_all us = rw infinite
 

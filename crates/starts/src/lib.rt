@@ -1,20 +1,14 @@
-// Where the path starts. `t < triangle_count` and `e < 3` stand in the contracts as in pde's edges.rt.
-// The three searches of a triangle or an edge stay apart: one function would take a closure for the test and one for the point, and each has four lines.
+// Where the path starts. `t < triangle_count` stands in the contracts as in mesh, whose lib.rt says why.
+// The three searches of a triangle or an edge stay apart: one function would take a closure for the test and one for the point, and each is one chain or two statements.
 #![tactic(auto)]
 
 ghost use Rattle.std.specs.Prelude.{◌≡◌, ◌<◌};
 ghost use Rattle.mesh.specs.Mesh.{triangle_count};
 ghost use Rattle.pde.specs.Start as Starts;
 
-use mesh::Mesh;
-use pde::{Entry, Field};
+use mesh::{Edge, Field, Mesh};
+use pde::{Entry, NO_EDGE};
 use plane::Point;
-
-// No edge, as a number of `Entry`.
-const NO_EDGE: usize = 3;
-
-// The tag of an inner vertex, as a number of the lent words.
-const INNER: u32 = 2;
 
 // ---- a given start
 
@@ -23,9 +17,7 @@ fn contains(mesh: &Mesh, p: Point, t: usize) -> bool
     requires { t < triangle_count mesh.now.triangles.now }
     ensures { result ≡ Starts.contains mesh.now.vertices.now mesh.now.triangles.now p t }
 {
-    let a = mesh.corner_point(t, 0);
-    let b = mesh.corner_point(t, 1);
-    let c = mesh.corner_point(t, 2);
+    let [a, b, c] = mesh.corners(t);
     plane::point_in_triangle(p, a, b, c)
 }
 
@@ -33,37 +25,34 @@ fn contains(mesh: &Mesh, p: Point, t: usize) -> bool
 pub fn find_triangle_containing(mesh: &Mesh, p: Point) -> Option<Entry>
     ensures { result ≡ Starts.triangle_containing mesh.now.vertices.now mesh.now.triangles.now (triangle_count mesh.now.triangles.now) p }
 {
-    let triangle = (0..mesh.triangle_count()).find(|t| contains(mesh, p, *t))?;
-    Some(Entry {
-        point: p,
-        triangle,
-        edge: NO_EDGE,
-    })
+    (0..mesh.triangle_count())
+        .find(|t| contains(mesh, p, *t))
+        .map(|triangle| Entry {
+            point: p,
+            triangle,
+            edge: NO_EDGE,
+        })
 }
 
 // ---- no given start: an inner edge
 
 // Edge e of triangle t has no neighbour and both corners inner.
-fn is_inner(mesh: &Mesh, t: usize, e: usize) -> bool
-    requires { (t < triangle_count mesh.now.triangles.now) × (e < 3) }
-    ensures { result ≡ Starts.is_inner mesh.now.triangles.now mesh.now.neighbours.now mesh.now.tags.now t e }
+fn is_inner(mesh: &Mesh, t: usize, e: Edge) -> bool
+    requires { t < triangle_count mesh.now.triangles.now }
+    ensures { result ≡ Starts.is_inner mesh.now.triangles.now mesh.now.neighbours.now mesh.now.tags.now t e.number }
 {
-    if mesh.neighbour(t, e).is_some() {
-        return false;
-    }
-    if mesh.tag(mesh.corner(t, e)) != INNER {
-        return false;
-    }
-    mesh.tag(mesh.corner(t, mesh::onward(e))) == INNER
+    mesh.neighbour(t, e).is_none()
+        && mesh.tag(mesh.corner(t, e)) == mesh::INNER
+        && mesh.tag(mesh.corner(t, e.onward())) == mesh::INNER
 }
 
 // The middle of edge e of triangle t.
-fn middle(mesh: &Mesh, t: usize, e: usize) -> Point
-    requires { (t < triangle_count mesh.now.triangles.now) × (e < 3) }
-    ensures { result ≡ Starts.middle mesh.now.vertices.now mesh.now.triangles.now t e }
+fn middle(mesh: &Mesh, t: usize, e: Edge) -> Point
+    requires { t < triangle_count mesh.now.triangles.now }
+    ensures { result ≡ Starts.middle mesh.now.vertices.now mesh.now.triangles.now t e.number }
 {
     let a = mesh.corner_point(t, e);
-    let b = mesh.corner_point(t, mesh::onward(e));
+    let b = mesh.corner_point(t, e.onward());
     Point {
         x: (a.x + b.x) * 0.5,
         y: (a.y + b.y) * 0.5,
@@ -75,24 +64,19 @@ fn inner_edge_of(mesh: &Mesh, t: usize) -> Option<Entry>
     requires { t < triangle_count mesh.now.triangles.now }
     ensures { result ≡ Starts.inner_edge_of mesh.now.vertices.now mesh.now.triangles.now mesh.now.neighbours.now mesh.now.tags.now t }
 {
-    let edge = (0..3).find(|e| is_inner(mesh, t, *e))?;
+    let edge = (0..3).find(|e| is_inner(mesh, t, Edge::of(*e)))?;
     Some(Entry {
-        point: middle(mesh, t, edge),
+        point: middle(mesh, t, Edge::of(edge)),
         triangle: t,
         edge,
     })
 }
 
-// The first inner edge of all. By a for, as std has no law of what `find_map` finds in a range.
+// The first inner edge of all.
 fn first_inner_edge(mesh: &Mesh) -> Option<Entry>
     ensures { result ≡ Starts.first_inner mesh.now.vertices.now mesh.now.triangles.now mesh.now.neighbours.now mesh.now.tags.now (triangle_count mesh.now.triangles.now) }
 {
-    for t in 0..mesh.triangle_count() {
-        if let Some(entry) = inner_edge_of(mesh, t) {
-            return Some(entry);
-        }
-    }
-    None
+    (0..mesh.triangle_count()).find_map(|t| inner_edge_of(mesh, t))
 }
 
 // ---- no inner edge: the first triangle that has the least vertex
@@ -102,7 +86,7 @@ fn least_vertex(values: &[f64]) -> usize
     ensures { result ≡ Starts.least_vertex values.now }
 {
     let mut best = 0;
-    let mut least = 1.0 / 0.0;
+    let mut least = f64::INFINITY;
     // `min_by` asks for an order, and a NaN has none.
     for (i, x) in values.iter().enumerate() {
         if *x < least {
@@ -117,22 +101,14 @@ fn has_vertex(mesh: &Mesh, v: usize, t: usize) -> bool
     requires { t < triangle_count mesh.now.triangles.now }
     ensures { result ≡ Starts.has mesh.now.triangles.now v t }
 {
-    if mesh.corner(t, 0) == v {
-        return true;
-    }
-    if mesh.corner(t, 1) == v {
-        return true;
-    }
-    mesh.corner(t, 2) == v
+    mesh.triangle(t).contains(&v)
 }
 
 fn centroid(mesh: &Mesh, t: usize) -> Point
     requires { t < triangle_count mesh.now.triangles.now }
     ensures { result ≡ Starts.centroid mesh.now.vertices.now mesh.now.triangles.now t }
 {
-    let a = mesh.corner_point(t, 0);
-    let b = mesh.corner_point(t, 1);
-    let c = mesh.corner_point(t, 2);
+    let [a, b, c] = mesh.corners(t);
     Point {
         x: (a.x + b.x + c.x) / 3.0,
         y: (a.y + b.y + c.y) / 3.0,

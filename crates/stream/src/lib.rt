@@ -24,7 +24,7 @@ fn write_text<W: Write>(
     writer.write_all(&out[..end])
 }
 
-// The same, on buffers of its own.
+// The same, on buffers of its own. The space and how many bytes were read into it go on as `print_read` takes them.
 fn print_space<W: Write>(space: &[u8; printing::READ], got: usize, writer: &mut W) -> io::Result<()>
     ensures { OnOk result (Appends (W.contents writer.old) (W.contents writer.new) (printed (take got space.now))) }
 {
@@ -43,16 +43,11 @@ fn print_space<W: Write>(space: &[u8; printing::READ], got: usize, writer: &mut 
     )
 }
 
-// Zeros, by their number alone.
-fn zeros() -> [u8; printing::READ] {
-    [0u8; printing::READ]
-}
-
 // Reads the input, up to one byte more than a sheet may have, and writes what is printed of it.
 pub fn print_from<R: Read, W: Write>(reader: &mut R, writer: &mut W) -> io::Result<()>
     ensures { OnOk result (IfSome (R.remaining reader.old) (λ sheet. Appends (W.contents writer.old) (W.contents writer.new) (printed sheet))) }
 {
-    let mut space = zeros();
+    let mut space = reading::zeros::<{ printing::READ }>();
     let got = reading::read_full(reader, &mut space)?;
     print_space(&space, got, writer)
 }

@@ -1,12 +1,13 @@
 -- A loop that goes up and writes one stretch of a buffer, for any type of elements: before its first turn, and a turn; and a stretch that the library replaces. s is the buffer at entry, l as it is now.
 -- Assumes nothing.
-use Rattle.std.specs.Prelude.{◌≡◌, List, [], ◌∷◌, ◌++◌, ℕ, ◌+◌, ◌-◌, ◌≤◌, ◌<◌, length, take, drop, get_or, set, replicate}
+use Rattle.std.specs.Prelude.{◌≡◌, refl, List, [], ◌∷◌, ◌++◌, ℕ, ◌+◌, ◌-◌, ◌≤◌, ◌<◌, length, take, drop, get_or, set, replicate}
 use lib.Seq.{paste}
-use Rattle.std.proofs.Common.{sym, ap, ◌∙◌, add-one, append_assoc, arith}
+use Rattle.std.specs.List.{FoldsTo}
+use Rattle.std.proofs.Common.{sym, ap, subst, ◌∙◌, add-one, append_assoc, arith}
 use Rattle.std.proofs.lemmas.List.{length-replicate, replicate-append-replicate}
 use Rattle.std.proofs.Math.Seq.{drop-drop}
 use Rattle.stretch.specs.Stretch.{part, splice, Copies}
-use Rattle.stretch.specs.StretchLaws.{length_part, part_zero, part_suc, splice_nil, splice_snoc, splice_is, splice_all, get_or-splice-ahead}
+use Rattle.stretch.specs.StretchLaws.{length_part, part_zero, part_suc, splice_nil, splice_snoc, splice_is, get_or-splice-ahead}
 
 module _ {ℓ} {A : Type ℓ} where
   -- any such loop: `new` is what it has written
@@ -47,13 +48,16 @@ module _ {ℓ} {A : Type ℓ} where
       let d : end - src ≡ n = omega arith in
       rw d (replaced_is s at n (part s src n) (length_part s src n (omega arith)) k)
 
-  -- a stretch up to `end`, all of whose k elements were written one after the other
-  pub filled_is : (s p : List A) (at end n k : ℕ) (v : A) → end ≡ at + n → end ≤ length s → k ≡ n → p ≡ splice (take (end - at) (drop at s)) 0 (replicate k v)
-      → take at s ++ (p ++ drop (end - at) (drop at s)) ≡ splice s at (replicate n v)
-  unfolding part
-  filled_is s p at end n k v d h e q =
+  -- a stretch up to `end` that is v over and over
+  pub filled_is : (s p : List A) (at end n : ℕ) (v : A) → end ≡ at + n → end ≤ length s → p ≡ replicate n v → take at s ++ (p ++ drop (end - at) (drop at s)) ≡ splice s at (replicate n v)
+  filled_is s p at end n v d h e =
       let m : end - at ≡ n = omega arith in
-      let long : length (part s at n) ≡ n = length_part s at n (omega arith) in
-      let w : p ≡ replicate n v =
-      q ∙ ap (λ (j : ℕ). splice (take j (drop at s)) 0 (replicate k v)) m ∙ ap (λ (j : ℕ). splice (part s at n) 0 (replicate j v)) e ∙ splice_all (part s at n) (replicate n v) (length-replicate n v ∙ sym long) in
-      rw (w, m, drop-drop) (sym (splice_is s (replicate n v) at n (length-replicate n v) (omega arith)))
+      rw (e, m, drop-drop) (sym (splice_is s (replicate n v) at n (length-replicate n v) (omega arith)))
+
+-- what a chain of calls gave that each give v and leave what they are called on as it was
+pub chained_is : {P A : Type 0} (R : P → A → P → Type 0) (f : P) (v : A) → ((x : A) (j : P) → R f x j → (x ≡ v) × (j ≡ f)) → (xs : List A) (last : P) → FoldsTo R f xs last → xs ≡ replicate (length xs) v
+chained_is R f v h [] last d = refl
+chained_is R f v h (x ∷ xs) last d =
+    let t = h x d.0 d.1 in
+    let rest : FoldsTo R f xs last = subst (λ j. FoldsTo R j xs last) t.1 d.2 in
+    rw t.0 (ap (λ (ys : List _). v ∷ ys) (chained_is R f v h xs last rest))

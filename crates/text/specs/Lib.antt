@@ -1,5 +1,6 @@
 pub mod Text
 pub mod Put
+pub mod LeftLaws
 pub mod PutLaws
 pub mod TextLaws
 pub mod Samples

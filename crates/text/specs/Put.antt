@@ -17,17 +17,25 @@ pub record Printed (s : List ℕ) (at : ℕ) (text : List ℕ) (next : ℕ) (l :
   pub within : next ≤ length l
   pub front : next ≡ length (take next l)
 
+-- there is room for the text behind what stands in the output
+abbrev pub Room : Output → List ℕ → Type 0
+Room o text = o.at + length text ≤ length o.bytes.now
+
 -- The text is put behind what stands in the output, in the same lent bytes.
 pub record Adds (old new : Output) (text : List ℕ) : Type 0 where
-  pub same : new.out.ghost_name ≡ old.out.ghost_name
-  pub put : Puts old.out.now old.len text new.len new.out.now
+  pub same : new.bytes.ghost_name ≡ old.bytes.ghost_name
+  pub put : Puts old.bytes.now old.at text new.at new.bytes.now
 
--- Putting the rest into the output, as it is now, puts the text into the old one.
+-- Putting the rest from `next` on into the buffer, as it is now, puts the text from `at` on into the old one.
+pub record LeftAt (s : List ℕ) (at : ℕ) (text : List ℕ) (l : List ℕ) (next : ℕ) (rest : List ℕ) : Type 0 where
+  pub is : splice l next rest ≡ splice s at text
+  pub goes : next + length rest ≡ at + length text
+  pub long : length l ≡ length s
+
+-- The same of an output: putting the rest into it, as it is now, puts the text into the old one.
 pub record Left (old : Output) (text : List ℕ) (now : Output) (rest : List ℕ) : Type 0 where
-  pub same : now.out.ghost_name ≡ old.out.ghost_name
-  pub is : splice now.out.now now.len rest ≡ splice old.out.now old.len text
-  pub goes : now.len + length rest ≡ old.len + length text
-  pub long : length now.out.now ≡ length old.out.now
+  pub same : now.bytes.ghost_name ≡ old.bytes.ghost_name
+  pub left : LeftAt old.bytes.now old.at text now.bytes.now now.at rest
 
 -- the text of what is printed of a run
 abbrev pub text_of : Shown → List ℕ

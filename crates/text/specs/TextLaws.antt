@@ -103,6 +103,10 @@ pub places-more : (n : ℕ) → 10 ≤ n → n < 18446744073709551616 → places
 unfolding places
 places-more n h k = places_more_by 18 n h ∙ ap suc (places_same 18 (n / 10) (omega arith))
 
+pub places_log : (k n : ℕ) → 10 ^ k ≤ n → n < 10 * 10 ^ k → n < 18446744073709551616 → places n ≡ suc k
+places_log zero n a b h = places_few n (omega arith)
+places_log (suc k) n a b h = places-more n (omega arith) h ∙ ap suc (places_log k (n / 10) (omega arith) (omega arith) (omega arith))
+
 pub places-most : (n : ℕ) → places n ≤ 20
 unfolding places
 places-most n = places_most_by 19 n
@@ -287,6 +291,9 @@ length-end p f w = simp length-append (omega (arith, length-decimal p, length-de
 pub length-refused : (k : ℕ) → length (refused_text k) ≡ 9 + places k
 unfolding refused_text word
 length-refused k = simp length-append (omega (arith, length-decimal k))
+
+pub refused_room : (k at n : ℕ) → at + 29 ≤ n → at + length (refused_text k) ≤ n
+refused_room k at n h = omega (arith, h, length-refused k, places-most k)
 
 -- the pieces of a run's text
 pub record RunSizes (place field_end path_end : ℕ) (us rs gs ps : List Float) : Type 0 where

@@ -6,10 +6,12 @@ mod lines;
 mod raw;
 
 ghost use Rattle.std.specs.Prelude.{◌+◌, ◌*◌, ◌≤◌, length};
-ghost use Rattle.text.specs.Put.{Adds, Printed, text_of};
+ghost use Rattle.refusal.specs.Refusal.{number_of};
+ghost use Rattle.text.specs.Put.{Adds, Printed, Room, text_of};
 ghost use Rattle.text.specs.Text as Text;
 
 pub use raw::Output;
+use refusal::Refusal;
 pub use std::num::f64_to_bits_with_nan as pattern;
 
 // What is printed of a run: its place and the ends of field and path; field values, norms, x and y of the gradients, x and y of the points.
@@ -27,7 +29,7 @@ pub struct Shown<'a> {
 impl Output<'_> {
     // The line of the place and the ends.
     pub fn end(&mut self, place: u64, field: u64, path: u64)
-        requires { self.old.len + length (Text.end_line place field path) ≤ length self.old.out.now }
+        requires { Room self.old (Text.end_line place field path) }
         ensures { Adds self.old self.new (Text.end_line place field path) }
     {
         self.bytes(b"end");
@@ -38,8 +40,16 @@ impl Output<'_> {
     }
 
     // The whole text of a refusal.
-    pub fn refused(&mut self, k: u64)
-        requires { self.old.len + length (Text.refused_text k) ≤ length self.old.out.now }
+    pub fn refused(&mut self, refusal: Refusal)
+        requires { Room self.old (Text.refused_text (number_of refusal)) }
+        ensures { Adds self.old self.new (Text.refused_text (number_of refusal)) }
+    {
+        self.refused_by(u64::from(refusal.number()));
+    }
+
+    // The same by any number.
+    pub fn refused_by(&mut self, k: u64)
+        requires { Room self.old (Text.refused_text k) }
         ensures { Adds self.old self.new (Text.refused_text k) }
     {
         self.bytes(b"refused");
@@ -49,7 +59,7 @@ impl Output<'_> {
 
     // The whole text of a run at its last place.
     pub fn run(&mut self, shown: Shown)
-        requires { self.old.len + length (text_of shown) ≤ length self.old.out.now }
+        requires { Room self.old (text_of shown) }
         ensures { Adds self.old self.new (text_of shown.entry) }
     {
         self.end(shown.place, shown.field_end, shown.path_end);
@@ -60,22 +70,34 @@ impl Output<'_> {
     }
 }
 
-// The text of a refusal, from the front of lent bytes on. Answers how many bytes it has.
-pub fn put_refused(out: &mut [u8], k: u64) -> usize
-    requires { 29 ≤ length out.old }
-    ensures { Printed out.old 0 (Text.refused_text k) result out.new }
+// Below: bytes and a place beside them, as a caller lends them; within, both are an `Output`. One function of the three would take a closure, and a contract that states once more what each puts.
+
+// The text of a refusal, from a place of lent bytes on. Answers the place behind it.
+pub fn put_refusal(out: &mut [u8], at: usize, refusal: Refusal) -> usize
+    requires { at + 29 ≤ length out.old }
+    ensures { Printed out.old at (Text.refused_text (number_of refusal)) result out.new }
 {
-    let mut output = Output { out, len: 0 };
-    output.refused(k);
-    output.len
+    let mut output = Output { bytes: out, at };
+    output.refused(refusal);
+    output.at
+}
+
+// The same by any number.
+pub fn put_refused(out: &mut [u8], at: usize, k: u64) -> usize
+    requires { at + 29 ≤ length out.old }
+    ensures { Printed out.old at (Text.refused_text k) result out.new }
+{
+    let mut output = Output { bytes: out, at };
+    output.refused_by(k);
+    output.at
 }
 
 // The same of a run at its last place.
-pub fn put_run(out: &mut [u8], shown: Shown) -> usize
-    requires { 67 + (19 * (length shown.field.now + length shown.norms.now) + 18 * (length shown.gradients.now + length shown.points.now)) ≤ length out.old }
-    ensures { Printed out.old 0 (text_of shown.entry) result out.new }
+pub fn put_run(out: &mut [u8], at: usize, shown: Shown) -> usize
+    requires { at + (67 + (19 * (length shown.field.now + length shown.norms.now) + 18 * (length shown.gradients.now + length shown.points.now))) ≤ length out.old }
+    ensures { Printed out.old at (text_of shown.entry) result out.new }
 {
-    let mut output = Output { out, len: 0 };
+    let mut output = Output { bytes: out, at };
     output.run(shown);
-    output.len
+    output.at
 }

@@ -1,6 +1,6 @@
 // Lines of text.
 ghost use Rattle.std.specs.Prelude.{◌+◌, ◌≤◌, ◌<◌, length};
-ghost use Rattle.text.specs.Put.{Adds};
+ghost use Rattle.text.specs.Put.{Adds, Room};
 ghost use Rattle.text.specs.Text as Text;
 
 use crate::raw::Output;
@@ -8,7 +8,7 @@ use crate::raw::Output;
 impl Output<'_> {
     // A space and a whole number.
     pub(crate) fn word(&mut self, n: u64)
-        requires { self.old.len + length (Text.word n) ≤ length self.old.out.now }
+        requires { Room self.old (Text.word n) }
         ensures { Adds self.old self.new (Text.word n) }
     {
         self.byte(b' ');
@@ -17,7 +17,7 @@ impl Output<'_> {
 
     // Numbers, a space before each.
     fn numbers(&mut self, xs: &[f64])
-        requires { self.old.len + length (Text.numbers xs.now) ≤ length self.old.out.now }
+        requires { Room self.old (Text.numbers xs.now) }
         ensures { Adds self.old self.new (Text.numbers xs.now) }
     {
         for x in xs {
@@ -28,7 +28,7 @@ impl Output<'_> {
 
     // A line of numbers.
     fn line(&mut self, letter: u8, xs: &[f64])
-        requires { self.old.len + length (Text.line letter xs.now) ≤ length self.old.out.now }
+        requires { Room self.old (Text.line letter xs.now) }
         ensures { Adds self.old self.new (Text.line letter xs.now) }
     {
         self.byte(letter);
@@ -38,7 +38,7 @@ impl Output<'_> {
 
     // As many lines of so many numbers as there are numbers for; what is left of them has no line.
     pub fn lines(&mut self, letter: u8, width: usize, xs: &[f64])
-        requires { (0 < width) × (self.old.len + length (Text.lines letter width xs.now) ≤ length self.old.out.now) }
+        requires { (0 < width) × (Room self.old (Text.lines letter width xs.now)) }
         ensures { Adds self.old self.new (Text.lines letter width xs.now) }
     {
         for part in xs.chunks_exact(width) {

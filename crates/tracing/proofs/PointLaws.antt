@@ -6,9 +6,12 @@ use Rattle.plane.specs.declared.Point.{Point}
 use Rattle.stretch.specs.Stretch.{splice}
 use Rattle.stretch.specs.StretchLaws.{splice_nil, splice-append}
 use Rattle.mesh.specs.Pair.{pair_step}
-use Rattle.pde.specs.declared.Beyond.{Beyond}
-use Rattle.pde.specs.declared.Crossing.{Crossing}
+use Rattle.pde.specs.declared.Halt.{Halt}
+use Rattle.pde.specs.declared.Leaving.{Leaving}
 use Rattle.pde.specs.declared.Walk.{Walk}
+use Rattle.std.specs.Prelude.{Option, Some, None, Ok, Err}
+use Rattle.binary64.specs.Number.{pick}
+use Rattle.pde.specs.Outcome.{Crossing}
 use Rattle.pde.specs.Path.{point_floats, coordinates_of, part_way, along, between, closing, closes, ended, gone, added, walked}
 use Rattle.pde.specs.PathLaws.{length_coordinates, coordinates_append, length-along, length-between}
 
@@ -42,48 +45,56 @@ closing_put s at q = rw add-zero at (pair_step s s at 0 [] q refl (sym (splice_n
 
 -- ---- out of a triangle
 
-module _ (room : ℕ) (w : Walk) (q : Point) (n : ℕ) (b : Beyond) {i e : ℕ} (isi : i ≡ n - 1) (ise : e ≡ closes b) (held : w.points ≤ room) where
-  full : room - w.points < i + e → ltb room (w.points + (n - 1 + closes b)) ≡ true
-  full f = lt-ltb room (w.points + (n - 1 + closes b)) (omega arith)
+-- how many points a crossing puts down, where the room holds them
+abbrev pub held_of : ℕ → Walk → Leaving → Option ℕ
+held_of room w left = pick (ltb room (w.points + (left.pieces - 1 + closes left.beyond))) None (Some (left.pieces - 1 + closes left.beyond))
 
-  fits : i + e ≤ room - w.points → ltb room (w.points + (n - 1 + closes b)) ≡ false
-  fits f = le-ltb room (w.points + (n - 1 + closes b)) (omega arith)
+full_told : (b : Bool) (a : ℕ) {r : Option ℕ} → r ≡ pick b None (Some a) → r ≡ None → b ≡ true
+full_told true a e n = refl
+full_told false a e n = absurd (cc (e, n))
+
+fits_told : (b : Bool) (a k : ℕ) {r : Option ℕ} → r ≡ pick b None (Some a) → r ≡ Some k → (b ≡ false) × (k ≡ a)
+fits_told true a k e n = absurd (cc (e, n))
+fits_told false a k e n = (refl, cc (e, n))
+
+module _ (room : ℕ) (w : Walk) (left : Leaving) where
+  module _ {k : ℕ} (isk : k ≡ left.pieces - 1 + closes left.beyond) (held : w.points ≤ room) where
+    pub held_full : room - w.points < k → None ≡ held_of room w left
+    held_full f = rw (lt-ltb room (w.points + (left.pieces - 1 + closes left.beyond)) (omega arith)) refl
+
+    pub held_fits : k ≤ room - w.points → Some k ≡ held_of room w left
+    held_fits f = rw (le-ltb room (w.points + (left.pieces - 1 + closes left.beyond)) (omega arith), isk) refl
+
+  full : {o : Option ℕ} → o ≡ held_of room w left → o ≡ None → ltb room (w.points + (left.pieces - 1 + closes left.beyond)) ≡ true
+  full e n = full_told (ltb room (w.points + (left.pieces - 1 + closes left.beyond))) _ e n
+
+  fits : {o : Option ℕ} (k : ℕ) → o ≡ held_of room w left → o ≡ Some k → (ltb room (w.points + (left.pieces - 1 + closes left.beyond)) ≡ false) × (k ≡ left.pieces - 1 + closes left.beyond)
+  fits k e n = fits_told (ltb room (w.points + (left.pieces - 1 + closes left.beyond))) _ k e n
 
   -- the points would not fit
-  pub left-full : (last : Bool) {r : Walk} → room - w.points < i + e → r ≡ ended w 7 → r ≡ walked room last w (Crossing.Leaves q n b)
+  pub left-full : (last : Bool) {r : Walk} {o : Option ℕ} → o ≡ held_of room w left → o ≡ None → r ≡ ended w 7 → r ≡ walked room last w (Ok left)
   unfolding walked
-  left-full last f p = rw (full f) p
+  left-full last e n p = rw (full e n) p
 
-  pub put_full : (path : List Float) → room - w.points < i + e → path ≡ splice path (point_floats * w.points) (coordinates_of (added room w (Crossing.Leaves q n b)))
+  pub put_full : (path : List Float) {o : Option ℕ} → o ≡ held_of room w left → o ≡ None → path ≡ splice path (point_floats * w.points) (coordinates_of (added room w (Ok left)))
   unfolding coordinates_of
-  put_full path f = rw (full f) (sym (splice_nil path (point_floats * w.points)))
+  put_full path e n = rw (full e n) (sym (splice_nil path (point_floats * w.points)))
 
   -- they fit
-  pub left_on : (last : Bool) {r : Walk} → i + e ≤ room - w.points → r ≡ gone last w q b (i + e) → r ≡ walked room last w (Crossing.Leaves q n b)
+  pub left_on : (last : Bool) (k : ℕ) {r : Walk} {o : Option ℕ} → o ≡ held_of room w left → o ≡ Some k → r ≡ gone last w left.point left.beyond k → r ≡ walked room last w (Ok left)
   unfolding walked
-  left_on last f p = rw (fits f, ← isi, ← ise) p
+  left_on last k e n p = let f = fits k e n in rw (f.0, ← f.1) p
 
-  pub put_on : (path : List Float) {path' path'' : List Float} → i + e ≤ room - w.points → path' ≡ splice path (point_floats * w.points) (coordinates_of (between w.position q n i))
-      → path'' ≡ splice path' (2 * (w.points + i)) (coordinates_of (closing q b)) → path'' ≡ splice path (point_floats * w.points) (coordinates_of (added room w (Crossing.Leaves q n b)))
-  put_on path {path'} {path''} f p' p'' =
-      let new = between w.position q n i in
-      let z : 2 * (w.points + i) ≡ point_floats * w.points + length (coordinates_of new) = omega (arith, length_coordinates new, length-between w.position q n i) in
-      rw (fits f, ← isi, p'', p', z, coordinates_append) (sym (splice-append path (point_floats * w.points) (coordinates_of new) (coordinates_of (closing q b))))
+  pub put_on : (path : List Float) {i : ℕ} {path' path'' : List Float} (k : ℕ) {o : Option ℕ} → o ≡ held_of room w left → o ≡ Some k → i ≡ left.pieces - 1
+      → path' ≡ splice path (point_floats * w.points) (coordinates_of (between w.position left.point left.pieces i))
+      → path'' ≡ splice path' (2 * (w.points + i)) (coordinates_of (closing left.point left.beyond)) → path'' ≡ splice path (point_floats * w.points) (coordinates_of (added room w (Ok left)))
+  put_on path {i} {path'} {path''} k e n isi p' p'' =
+      let new = between w.position left.point left.pieces i in
+      let z : 2 * (w.points + i) ≡ point_floats * w.points + length (coordinates_of new) = omega (arith, length_coordinates new, length-between w.position left.point left.pieces i) in
+      rw ((fits k e n).0, ← isi, p'', p', z, coordinates_append) (sym (splice-append path (point_floats * w.points) (coordinates_of new) (coordinates_of (closing left.point left.beyond))))
 
--- ---- ends 1 and 2
+-- ---- no way out of it
 
-pub walk_dull : (room : ℕ) (last : Bool) (w : Walk) (r : Walk) (c : Crossing) → c ≡ Crossing.Dull → r ≡ ended w 1 → r ≡ walked room last w c
-unfolding walked
-walk_dull room last w r c e p = rw e p
-
-pub walk_stuck : (room : ℕ) (last : Bool) (w : Walk) (r : Walk) (c : Crossing) → c ≡ Crossing.Stuck → r ≡ ended w 2 → r ≡ walked room last w c
-unfolding walked
-walk_stuck room last w r c e p = rw e p
-
-pub put_dull : (room : ℕ) (w : Walk) (path : List Float) (c : Crossing) → c ≡ Crossing.Dull → path ≡ splice path (point_floats * w.points) (coordinates_of (added room w c))
+pub put_halted : (room : ℕ) (w : Walk) (path : List Float) (c : Crossing) {h : Halt} → c ≡ Err h → path ≡ splice path (point_floats * w.points) (coordinates_of (added room w c))
 unfolding coordinates_of
-put_dull room w path c e = rw e (sym (splice_nil path (point_floats * w.points)))
-
-pub put_stuck : (room : ℕ) (w : Walk) (path : List Float) (c : Crossing) → c ≡ Crossing.Stuck → path ≡ splice path (point_floats * w.points) (coordinates_of (added room w c))
-unfolding coordinates_of
-put_stuck room w path c e = rw e (sym (splice_nil path (point_floats * w.points)))
+put_halted room w path c e = rw e (sym (splice_nil path (point_floats * w.points)))

@@ -1,4 +1,4 @@
-// The spiral as it is laid down: where it starts, the points of its crossings, and its length.
+// The spiral as it is laid down: the points of its crossings, where the path stands behind each, and its length.
 #![tactic(auto)]
 
 pub mod path;

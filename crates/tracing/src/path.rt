@@ -1,11 +1,13 @@
 // The points of a crossing, the room rule and the ends of the path; a path's length.
-ghost use Rattle.std.specs.Prelude.{◌≡◌, ◌+◌, ◌-◌, ◌*◌, ◌^◌, ◌<◌, ◌≤◌};
+// Path, room and walk stay parameters of their own: the path alone is lent to be written, and where the path then stands is decided by the room alone.
+ghost use Rattle.std.specs.Prelude.{◌≡◌, ◌+◌, ◌-◌, ◌*◌, ◌^◌, ◌<◌, ◌≤◌, Ok, Some, None, ltb};
 ghost use Rattle.std.proofs.Math.ListN as Lists;
+ghost use Rattle.binary64.specs.Number.{pick};
 ghost use Rattle.stretch.specs.Stretch.{splice};
 ghost use Rattle.pde.specs.Path as Paths;
 ghost use Rattle.pde.specs.Work.{Roomy};
 
-use pde::{Beyond, Crossing, Walk, edges};
+use pde::{Barrier, Beyond, Crossing, Leaving, Walk, edges};
 use plane::Point;
 
 // ---- the points of a crossing, written into the lent path, which is handed on whole with a place in it
@@ -29,75 +31,83 @@ pub fn put_points(path: &mut [f64], at: usize, p: Point, q: Point, n: usize, k: 
     }
 }
 
-// How many points an end puts down.
+// How many points the way beyond an exit puts down: the exit is put down by end 5 alone.
 fn closes(b: Beyond) -> usize
     ensures { result ≡ Paths.closes b }
 {
     match b {
-        Beyond::Above => 1,
-        Beyond::Border | Beyond::Unnamed | Beyond::Into(_) => 0,
+        Err(Barrier::Above) => 1,
+        Ok(_) | Err(Barrier::Border | Barrier::Unnamed) => 0,
     }
 }
 
-// The exit is put down by end 5 alone.
-fn put_closing(path: &mut [f64], at: usize, q: Point, b: Beyond)
-    requires { at + Paths.point_floats * Paths.closes b ≤ Lists.length path.old }
-    ensures { path.new ≡ splice path.old at (Paths.coordinates_of (Paths.closing q b)) }
+// How many points a way of so many pieces puts down. Of the two parts of `Leaving`, since of a number in a struct the check does not know that it fits its type.
+fn adds(pieces: usize, b: Beyond) -> usize
+    ensures { result ≡ pieces - 1 + Paths.closes b }
 {
-    match b {
-        Beyond::Above => {
-            let l = at + 1;
-            path[at] = q.x;
-            path[l] = q.y;
-        }
-        Beyond::Border | Beyond::Unnamed | Beyond::Into(_) => {}
+    pieces.saturating_sub(1) + closes(b)
+}
+
+// How many points a crossing puts down, where the room holds them.
+fn held(room: usize, w: Walk, left: Leaving) -> Option<usize>
+    requires { w.points ≤ room }
+    ensures { result ≡ pick (ltb room (w.points + Paths.adds (Ok left))) None (Some (Paths.adds (Ok left))) }
+{
+    let k = adds(left.pieces, left.beyond);
+    if room - w.points < k { None } else { Some(k) }
+}
+
+// The exit, where it is put down.
+#[tactic(auto, using(crate::proofs::PointLaws::closing_none, crate::proofs::PointLaws::closing_put), unfolding(pde::specs::Path::closing))]
+fn put_closing(path: &mut [f64], at: usize, left: Leaving)
+    requires { at + Paths.point_floats * Paths.closes left.beyond ≤ Lists.length path.old }
+    ensures { path.new ≡ splice path.old at (Paths.coordinates_of (Paths.closing left.point left.beyond)) }
+{
+    if let Err(Barrier::Above) = left.beyond {
+        let l = at + 1;
+        path[at] = left.point.x;
+        path[l] = left.point.y;
     }
 }
 
-// ---- the path after a crossing. Its ends are numbers, as in `Walk`; `last` is a fact that one of the ends tells, and calls nothing else
+// ---- the path after a crossing. Its end is a number, and triangle and edge are apart, as in `Walk`; `last` is a fact that the end `LAST` tells, and calls nothing else
 
-// Ends 3, 4, 5; or on into the next triangle, with end 6 where this was the last crossing.
-fn gone(last: bool, w: Walk, q: Point, b: Beyond, k: usize) -> Walk
+// The path's ends where the last crossing is made, and where the room does not hold the points.
+const LAST: usize = 6;
+
+const FULL: usize = 7;
+
+// The end of a barrier; or on into the next triangle, with an end where this was the last crossing.
+fn gone(last: bool, w: Walk, left: Leaving, k: usize) -> Walk
     requires { w.points + k < 2 ^ 64 }
-    ensures { result ≡ Paths.gone last w q b k }
+    ensures { result ≡ Paths.gone last w left.point left.beyond k }
 {
     let points = w.points + k;
-    match b {
-        Beyond::Border => Walk {
+    match left.beyond {
+        Err(barrier) => Walk {
             points,
-            end: 3,
+            end: barrier.number(),
             ..w
         },
-        Beyond::Unnamed => Walk {
-            points,
-            end: 4,
-            ..w
-        },
-        Beyond::Above => Walk {
-            points,
-            end: 5,
-            ..w
-        },
-        Beyond::Into(side) => Walk {
-            position: q,
+        Ok(side) => Walk {
+            position: left.point,
             triangle: side.triangle,
             edge: side.edge,
             points,
-            end: if last { 6 } else { 0 },
+            end: if last { LAST } else { 0 },
         },
     }
 }
 
-// Where the path stands behind the exit at q, in n pieces: the room decides.
-fn left_at(room: usize, last: bool, w: Walk, q: Point, n: usize, b: Beyond) -> Walk
+// Where the path stands behind an exit: the room decides.
+fn left_at(room: usize, last: bool, w: Walk, left: Leaving) -> Walk
     requires { w.points ≤ room }
-    ensures { result ≡ Paths.walked room last w (Crossing.Leaves q n b) }
+    ensures { result ≡ Paths.walked room last w (Ok left) }
 {
-    let k = n.saturating_sub(1) + closes(b);
-    if room - w.points < k {
-        return Walk { end: 7, ..w };
+    match held(room, w, left) {
+        None => Walk { end: FULL, ..w },
+        Some(k) => gone(last, w, left, k),
     }
-    gone(last, w, q, b, k)
 }
 
 // Where the path stands after a crossing: ends 1 and 2, or out of the triangle.
@@ -106,24 +116,32 @@ pub fn after(room: usize, last: bool, w: Walk, c: Crossing) -> Walk
     ensures { result ≡ Paths.walked room last w c }
 {
     match c {
-        Crossing::Dull => Walk { end: 1, ..w },
-        Crossing::Stuck => Walk { end: 2, ..w },
-        Crossing::Leaves(q, n, b) => left_at(room, last, w, q, n, b),
+        Err(halt) => Walk {
+            end: halt.number(),
+            ..w
+        },
+        Ok(left) => left_at(room, last, w, left),
     }
 }
 
-// The points up to the exit at q, in n pieces, where the room holds them.
-fn put_leaving(path: &mut [f64], room: usize, w: Walk, q: Point, n: usize, b: Beyond)
+// The points up to an exit, where the room holds them.
+fn put_leaving(path: &mut [f64], room: usize, w: Walk, left: Leaving)
     requires { Roomy path.old room w }
-    ensures { path.new ≡ splice path.old (Paths.point_floats * w.points) (Paths.coordinates_of (Paths.added room w (Crossing.Leaves q n b))) }
+    ensures { path.new ≡ splice path.old (Paths.point_floats * w.points) (Paths.coordinates_of (Paths.added room w (Ok left))) }
 {
-    let between = n.saturating_sub(1);
-    let k = between + closes(b);
-    if room - w.points < k {
+    let Some(_) = held(room, w, left) else {
         return;
-    }
-    put_points(path, 2 * w.points, w.position, q, n, between);
-    put_closing(path, 2 * (w.points + between), q, b);
+    };
+    let between = left.pieces.saturating_sub(1);
+    put_points(
+        path,
+        2 * w.points,
+        w.position,
+        left.point,
+        left.pieces,
+        between,
+    );
+    put_closing(path, 2 * (w.points + between), left);
 }
 
 // The points of a crossing, behind those of the path.
@@ -131,9 +149,8 @@ pub fn put_added(path: &mut [f64], room: usize, w: Walk, c: Crossing)
     requires { Roomy path.old room w }
     ensures { path.new ≡ splice path.old (Paths.point_floats * w.points) (Paths.coordinates_of (Paths.added room w c)) }
 {
-    match c {
-        Crossing::Dull | Crossing::Stuck => {}
-        Crossing::Leaves(q, n, b) => put_leaving(path, room, w, q, n, b),
+    if let Ok(left) = c {
+        put_leaving(path, room, w, left);
     }
 }
 
@@ -143,6 +160,7 @@ pub fn put_added(path: &mut [f64], room: usize, w: Walk, c: Crossing)
 pub fn length(path: &[f64]) -> f64
     ensures { result ≡ Paths.length_of path.now }
 {
+    // By `chunks_exact`, whose contract says what is left of the path, as the sum's definition does; that of `as_chunks` speaks of all pairs of the list at once.
     let mut points = path.chunks_exact(2);
     let Some(first) = points.next() else {
         return 0.0;

@@ -11,7 +11,7 @@ use lib.ListN.{length, set, take, drop}
 use lib.Seq.{length_front}
 use lib.Ieee.{Float}
 use Rattle.plane.specs.declared.Point.{Point}
-use Rattle.pde.specs.declared.Crossing.{Crossing}
+use Rattle.pde.specs.Outcome.{Crossing}
 use Rattle.pde.specs.Path.{point_floats, coordinates_of, added}
 use Rattle.stretch.specs.Stretch.{splice}
 use Rattle.stretch.specs.StretchLaws.{splice-one, splice_snoc}

@@ -33,11 +33,11 @@ module _ (n t : ℕ) (words : List ℕ) where
   abbrev begun_by : List Float → Solve
   begun_by s = start_of words s (matrix_at n t) (at_right n t)
 
-  pub begun_behind : (front behind new right : List Float) (rows : List (List Entry)) (sum : Float) → rows ≡ matrix words front (matrix_at n t) → right ≡ part front (at_right n t) n → length new ≡ 4 * n
-      → Solving.Begun (take (4 * n) behind) new n (row_of n) (begun rows right) sum → Solving.Begun (take (4 * n) behind) (take (4 * n) (new ++ drop (4 * n) behind)) n (row_of n) (begun_by front) sum
-  begun_behind front behind new right rows sum er eb long g =
+  pub begun_behind : (front behind new right : List Float) (rows : List (List Entry)) (sum : Float) {k : ℕ} → k ≡ n → rows ≡ matrix words front (matrix_at n t) → right ≡ part front (at_right n t) n → length new ≡ 4 * n
+      → Solving.Begun (take (4 * n) behind) new k (row_of k) (begun rows right) sum → Solving.Begun (take (4 * n) behind) (take (4 * n) (new ++ drop (4 * n) behind)) n (row_of n) (begun_by front) sum
+  begun_behind front behind new right rows sum ek er eb long g =
       let e : take (4 * n) (new ++ drop (4 * n) behind) ≡ new = take_at new (drop (4 * n) behind) (4 * n) long in
-      rw (e, ← er, ← eb) g
+      rw (e, ← er, ← eb) (rw ek at g)
 
   -- and so of the whole buffer
   module _ (s front behind behind' : List Float) (b : Solving.Starts words (length s) (matrix_at n t) (vectors_at n t) (at_right n t)) (ef : front ≡ take (at_x n t) s) (eb : behind ≡ drop (at_x n t) s) where

@@ -2,10 +2,9 @@
 use Rattle.std.specs.Prelude.{◌≡◌, List, ℕ, ◌*◌, ◌<◌, length, Float, Option, Some, None}
 use Rattle.stretch.specs.Stretch.{part, splice}
 use Rattle.mesh.specs.Element.{flat}
-use Rattle.mesh.specs.Work.{vertices_of, triangles_of, neighbours_of, tags_of, MeshAt}
+use Rattle.mesh.specs.Work.{vertices_of, triangles_of, neighbours_of, tags_of, MeshAt, Fielded, field_of}
 use Rattle.gradient.specs.Gradient.{gradients}
 use Rattle.pde.specs.Start.{triangle_containing, pick_start}
-use Rattle.pde.specs.Work.{Fielded, field_of}
 use Rattle.work.specs.declared.Plan.{Plan}
 use Rattle.work.specs.declared.Stand.{Stand}
 use Rattle.work.specs.declared.Step.{Step}

@@ -5,6 +5,7 @@ use Rattle.std.specs.Prelude.{ℕ, ◌+◌, ◌*◌}
 use Rattle.sparse.specs.Stored.{CsrAt}
 use Rattle.mesh.specs.Work.{MeshAt}
 use Rattle.conjugate.specs.Placed.{VectorsAt}
+use Rattle.laplace.specs.declared.Places.{Places}
 
 abbrev pub at_right : ℕ → ℕ → ℕ
 at_right n t = 2 * n
@@ -68,3 +69,19 @@ mesh_at n t = record { n = n; t = t; vertices = 0; triangles = 0; neighbours = a
 
 abbrev pub vectors_at : ℕ → ℕ → VectorsAt
 vectors_at n t = record { x = at_x n t; r = at_r n t; p = at_p n t; product = at_product n t }
+
+-- where the assembly finds the mesh, the matrix and the right side
+abbrev pub places_at : ℕ → ℕ → Places
+places_at n t = record {
+  vertices = 0;
+  right = at_right n t;
+  row = at_row n t;
+  values = at_values n t;
+  triangles = 0;
+  tags = at_tags t;
+  starts = at_starts n t;
+  cols = at_columns n t;
+  heads = at_heads n t;
+  links = at_links n t;
+  rowcols = at_row_columns n t;
+}

@@ -11,7 +11,7 @@ use Rattle.conjugate.specs.Solver.{Solve, Turn, halted, reached, moved, begun}
 use Rattle.gradient.specs.Gradient.{gradients}
 use Rattle.plane.specs.declared.Point.{Point}
 use Rattle.pde.specs.declared.Walk.{Walk}
-use Rattle.pde.specs.declared.Crossing.{Crossing}
+use Rattle.pde.specs.Outcome.{Crossing}
 use Rattle.pde.specs.Start.{triangle_containing, pick_start}
 use Rattle.pde.specs.Crossing.{crossing}
 use Rattle.pde.specs.Path.{point_floats, coordinates_of, ended, walked, added}

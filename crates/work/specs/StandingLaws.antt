@@ -10,7 +10,7 @@ use Rattle.mesh.specs.Element.{flat}
 use Rattle.mesh.specs.Work.{triangles_of, neighbours_of}
 use Rattle.conjugate.specs.Solver as Solver
 use Rattle.conjugate.specs.Solver.{Turn, halted, reached, moved}
-use Rattle.pde.specs.declared.Crossing.{Crossing}
+use Rattle.pde.specs.Outcome.{Crossing}
 use Rattle.pde.specs.Path.{walked}
 use Rattle.pde.specs.PathLaws.{walked-most, walked_stands}
 use Rattle.pde.specs.Bounds.{StartIn, CrossingIn, containing_in, pick_start_in, crossing_in_lem}

@@ -4,19 +4,19 @@
 ghost use Rattle.std.specs.Prelude.{◌≡◌, ◌+◌, ◌*◌, ◌≤◌, length};
 ghost use Rattle.sparse.specs.Matrix.{matrix_of, rows};
 ghost use Rattle.sparse.specs.Stored as Stored;
-ghost use Rattle.pde.specs.Stands.{FieldStands};
+ghost use Rattle.mesh.specs.Stands.{FieldStands};
 ghost use Rattle.work.specs.Layout.{at_x, matrix_at, mesh_at};
 ghost use Rattle.work.specs.Laid.{Laying};
 
-use crate::Plan;
-use pde::Field;
+use crate::Counted;
+use mesh::Field;
 use sparse::Matrix;
 
 #[derive(Clone, Copy)]
 pub struct Laid<'a> {
-    pub plan: Plan,
+    pub counted: Counted,
     pub words: &'a [u32],
-    pub ghost ready: { Laying plan words.now },
+    pub ghost ready: { Laying counted.plan words.now },
 }
 
 impl<'a> Laid<'a> {
@@ -24,20 +24,21 @@ impl<'a> Laid<'a> {
     pub fn matrix<'b>(&self, floats: &'b [f64]) -> Matrix<'b>
     where
         'a: 'b,
-        requires { at_x self.now.plan.n self.now.plan.t ≤ length floats.now }
-        ensures is { matrix_of result ≡ Stored.matrix self.now.words.now floats.now (matrix_at self.now.plan.n self.now.plan.t) }
-        ensures long { rows result ≡ self.now.plan.n }
+        requires { at_x self.now.counted.plan.n self.now.counted.plan.t ≤ length floats.now }
+        ensures is { matrix_of result ≡ Stored.matrix self.now.words.now floats.now (matrix_at self.now.counted.plan.n self.now.counted.plan.t) }
+        ensures long { rows result ≡ self.now.counted.plan.n }
     {
-        self.plan.matrix(floats, self.words)
+        self.counted.matrix(floats, self.words)
     }
 
     // The mesh, with the values from u on: the vertices stand first in the floats.
     pub fn field<'b>(&self, floats: &'b [f64], u: usize) -> Field<'b>
     where
         'a: 'b,
-        requires { (2 * self.now.plan.n ≤ length floats.now) × (u + self.now.plan.n ≤ length floats.now) }
-        ensures { FieldStands floats.now self.now.words.now (mesh_at self.now.plan.n self.now.plan.t) u result }
+        requires { (2 * self.now.counted.plan.n ≤ length floats.now) × (u + self.now.counted.plan.n ≤ length floats.now) }
+        ensures { FieldStands floats.now self.now.words.now (mesh_at self.now.counted.plan.n self.now.counted.plan.t) u result }
     {
-        Field::of(floats, self.words, self.plan.n, self.plan.t, u)
+        let plan = self.counted.plan;
+        Field::of(floats, self.words, plan.n, plan.t, u)
     }
 }

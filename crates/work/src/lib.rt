@@ -1,4 +1,4 @@
-// The work of a run in the three lent buffers: one pass, and passes in a row.
+// The records of a run, the layout of the three lent buffers, and the vectors of place 0.
 #![tactic(auto)]
 
 mod laid;
@@ -6,11 +6,13 @@ mod layout;
 pub mod place;
 pub mod vectors;
 
-ghost use Rattle.std.specs.Prelude.{◌≡◌, ◌≤◌, ◌||◌, ltb};
-ghost use Rattle.model.specs.Space.{float_space, word_space, path_space};
+ghost use Rattle.std.specs.Prelude.{◌≡◌, ◌≤◌, ◌||◌, ltb, true, false};
+ghost use Rattle.model.specs.Space.{farthest};
+ghost use Rattle.work.specs.Memory.{kept_of};
 ghost use Rattle.work.specs.Record.{new_run, no_run};
 
 pub use laid::Laid;
+pub use layout::Counted;
 use pde::Walk;
 use plane::Point;
 
@@ -35,18 +37,12 @@ pub struct Space {
 }
 
 impl Plan {
-    // What a run of this plan needs.
-    pub fn space(&self) -> Space
-        requires { (self.now.n ≤ 4096) × (self.now.t ≤ 8192) × (self.now.limit ≤ 100000) × (self.now.room ≤ 1000000) }
-        ensures floats { result.floats ≡ float_space self.now.n self.now.t self.now.limit }
-        ensures words { result.words ≡ word_space self.now.n self.now.t }
-        ensures path { result.path ≡ path_space self.now.room }
+    // The greatest place that a run of this plan can reach. It asks for T and limit alone, so it is no method of `Counted`.
+    pub fn farthest(&self) -> usize
+        requires { (self.now.t ≤ 8192) × (self.now.limit ≤ 100000) }
+        ensures { result ≡ farthest self.now.t self.now.limit }
     {
-        Space {
-            floats: 12 * self.n + 12 * self.t + self.limit + 32,
-            words: 8 * self.n + 32 * self.t + 32,
-            path: 2 * self.room,
-        }
+        self.limit + 1 + Run::FACTOR * self.t
     }
 }
 
@@ -71,6 +67,33 @@ pub struct Stand {
     pub crossings: usize,
 }
 
+impl Stand {
+    // The field's ends: the tolerance reached, p·Ap too small, the limit used up.
+    pub const REACHED: usize = 1;
+
+    pub const HALTED: usize = 2;
+
+    pub const USED_UP: usize = 3;
+
+    // Whether the field has its end.
+    #[inline(always)]
+    pub fn is_solved(&self) -> bool
+        ensures yes { result ≡ true → self.now.end ≡ 0 → ⊥ }
+        ensures no { result ≡ false → self.now.end ≡ 0 }
+    {
+        self.end != 0
+    }
+
+    // Whether the path has its end.
+    #[inline(always)]
+    pub fn is_over(&self) -> bool
+        ensures yes { result ≡ true → self.now.walk.end ≡ 0 → ⊥ }
+        ensures no { result ≡ false → self.now.walk.end ≡ 0 }
+    {
+        self.walk.end != 0
+    }
+}
+
 // What a pass gives to be written behind what is there: nothing, a norm, or points of the path. An Option of the other three would be no plainer: both are matched at once.
 #[derive(Clone, Copy)]
 pub enum Gives {
@@ -93,6 +116,20 @@ pub struct Kept {
     pub place: usize,
     pub rs: f64,
     pub norms: usize,
+}
+
+impl From<Stand> for Kept {
+    ghost from_gives = { λ stand kept. kept ≡ kept_of stand };
+
+    fn from(stand: Stand) -> Kept
+        ensures { result ≡ kept_of stand }
+    {
+        Kept {
+            place: stand.place,
+            rs: stand.rs,
+            norms: stand.norms,
+        }
+    }
 }
 
 // From where a place is sought: on from here, from where the path started, from where the field ended, from the kept vectors, or from place 0.
@@ -139,7 +176,7 @@ impl Run {
         }
     }
 
-    // No run, where a sheet is refused.
+    // No run, where a sheet is refused: the record that definitions give for one (`answer_of no_run`). `open` answers a `Result`, so no program calls this; it stays as a public function with its promise.
     pub fn nothing() -> Run
         ensures { result ≡ no_run }
     {

@@ -7,7 +7,7 @@ ghost use Rattle.work.specs.Memory as Memory;
 ghost use Rattle.work.specs.Record.{first_end};
 
 use crate::Stand;
-use pde::Walk;
+use pde::{NO_EDGE, Walk};
 use plane::Point;
 
 // No path, with an end or none (0).
@@ -17,7 +17,7 @@ pub fn lost(end: usize) -> Walk
     Walk {
         position: Point { x: 0.0, y: 0.0 },
         triangle: 0,
-        edge: 3,
+        edge: NO_EDGE,
         points: 0,
         end,
     }
@@ -37,11 +37,11 @@ pub fn pathless(place: usize, rs: f64, norms: usize, end: usize) -> Stand
     }
 }
 
-// The field's end where so many norms stand behind the first: 3 where the limit is used up.
+// The field's end where so many norms stand behind the first: none (0), but where the limit is used up.
 pub fn limit_end(limit: usize, norms: usize) -> usize
     ensures { result ≡ pick (leb limit norms) 3 0 }
 {
-    if limit <= norms { 3 } else { 0 }
+    if limit <= norms { Stand::USED_UP } else { 0 }
 }
 
 // The field's end at place 0.

@@ -6,21 +6,22 @@ use Rattle.std.specs.List.{fold}
 use mathlib.Core.List.{List, [], ◌∷◌, ◌++◌, map, append-nil, append_assoc}
 use native.Mathlib.Numerals.{add-one}
 use native.Mathlib.Omega.{arith}
-use lib.ListN.{length, get_or, set, take, drop, length-append, length-map}
+use lib.ListN.{length, get_or, take, drop, length-append, length-map}
 use lib.Seq.{take-suc, take_all, drop-cons}
 use Rattle.std.specs.Prelude.{Option, Some, None, is_some, count_by}
 use Rattle.std.specs.Option.{option_map}
-use Rattle.std.proofs.Common.{take-append-drop}
+use Rattle.std.proofs.Common.{take-append-drop, subst, add-zero}
 use Rattle.format.specs.declared.Settings.{Settings}
 use Rattle.format.specs.declared.Setting as code
 use Rattle.format.specs.Setting.{Setting, Limit, Tolerance, Step, StartX, StartY, Room, said}
 use Rattle.format.specs.Bytes.{bytes, all_bytes}
 use Rattle.format.specs.Place.{placed}
 use Rattle.format.specs.Refusal.{◌then◌, each, setting_fault, given, present}
-use Rattle.format.specs.Sheet.{item_of, section}
-use Rattle.format.specs.BytesLaws.{length-bytes, length-all_bytes}
-use Rattle.format.specs.PlaceLaws.{placed_none, placed_one, placed-next, length-placed}
-use Rattle.writing.specs.Write.{slot_fault, given_in, slot_bytes, laid_all}
+use Rattle.format.specs.Sheet.{kind_of, value_of, item_of, section}
+use Rattle.format.specs.BytesLaws.{length-all_bytes}
+use Rattle.format.specs.PlaceLaws.{placed_none, placed-next, length-placed}
+use Rattle.writing.specs.declared.putting.Output.{Output}
+use Rattle.writing.specs.Write.{slot_fault, given_in, slot_bytes, laid_all, HasRoom, Adds}
 
 -- ---- settings
 
@@ -102,23 +103,55 @@ pub section_slots : (n : ℕ) (slots : List (Option code.Setting)) (ss : List Se
 unfolding section
 section_slots n slots ss e = ap (λ (l : List ℕ). bytes 4 n ++ l) (slots_laid slots ∙ ap (λ (l : List Setting). all_bytes 9 (map item_of l)) e)
 
-pub byte_put : (m : List ℕ) (at x : ℕ) → x < 256 → set m at x ≡ placed m at (bytes 1 x)
+pub one_byte : (x : ℕ) → x < 256 → ◌≡◌ {A = List ℕ} (x ∷ []) (bytes 1 x)
 unfolding bytes
-byte_put m at x h =
-    let e : x % 256 ≡ x = omega arith in
-    sym (ap (λ (v : ℕ). placed m at (v ∷ [])) e ∙ placed_one m at x)
+one_byte x h =
+    let e : x ≡ x % 256 = omega arith in
+    ap (λ (v : ℕ). v ∷ []) e
 
-pub item_put : (m m' : List ℕ) (at kind v : ℕ) → kind < 256 → m' ≡ placed (set m at kind) (at + 1) (bytes 8 v) → m' ≡ placed m at (bytes 9 (kind + 256 * v))
-unfolding bytes placed
-item_put m m' at kind v h e =
-    let k : (kind + 256 * v) % 256 ≡ kind = omega arith in
-    let q : (kind + 256 * v) / 256 ≡ v = omega arith in
-    e ∙ ap (λ (j : ℕ). placed (set m at kind) j (bytes 8 v)) (add-one at) ∙ sym (ap₂ (λ (a b : ℕ). placed m at (a ∷ bytes 8 b)) k q)
+-- a kind and a value are an item
+item_bytes : (kind v : ℕ) → kind < 256 → kind ∷ bytes 8 v ≡ bytes 9 (kind + 256 * v)
+unfolding bytes
+item_bytes kind v h =
+    let k : kind ≡ (kind + 256 * v) % 256 = omega arith in
+    let q : v ≡ (kind + 256 * v) / 256 = omega arith in
+    ap₂ (λ (a b : ℕ). a ∷ bytes 8 b) k q
 
--- i of the items are down, in a list that was m₀, and the next one goes to `next`
-pub record Down {A : Type 0} (laid : A → List ℕ) (m₀ : List ℕ) (at : ℕ) (xs : List A) (i : ℕ) (m : List ℕ) (next : ℕ) : Type 0 where
-  pub is : m ≡ placed m₀ at (laid_all laid (take i xs))
-  pub goes : next ≡ at + length (laid_all laid (take i xs))
+pub slot_laid : (slot : Option code.Setting) (s : code.Setting) (kind v : ℕ) (laid : List ℕ) → slot ≡ Some s → kind < 256 → kind ≡ kind_of (said s) → v ≡ value_of (said s) → laid ≡ bytes 8 v
+    → (kind ∷ []) ++ laid ≡ slot_bytes slot
+unfolding item_of
+slot_laid slot s kind v laid e h p q r =
+    ap (λ (l : List ℕ). kind ∷ l) r ∙ item_bytes kind v h ∙ ap₂ (λ (a b : ℕ). bytes 9 (a + 256 * b)) p q ∙ ap slot_bytes (sym e)
+
+-- ---- bytes put behind one another
+
+pub adds_none : (s : Output) → Adds s s []
+adds_none s = record { same = refl; down = sym (placed_none s.bytes.now s.at); next = sym (add-zero s.at) }
+
+pub adds_more : {s l m : Output} {xs ys : List ℕ} → Adds s l xs → Adds l m ys → Adds s m (xs ++ ys)
+adds_more {s} {l} {m} {xs} {ys} p q = record {
+  same = q.same ∙ p.same;
+  down = q.down ∙ ap (λ (z : List ℕ). placed z l.at ys) p.down ∙ placed-next s.bytes.now s.at l.at xs ys p.next;
+  next = let n : length (xs ++ ys) ≡ length xs + length ys = length-append xs ys in omega (arith, p.next, q.next);
+}
+
+-- in other words
+pub adds_as : {s l : Output} {xs ys : List ℕ} → Adds s l xs → xs ≡ ys → Adds s l ys
+adds_as {s} {l} p e = subst (Adds s l) e p
+
+pub room_as : (s : Output) {xs ys : List ℕ} → xs ≡ ys → HasRoom s ys → HasRoom s xs
+room_as s e r = subst (HasRoom s) (sym e) r
+
+-- there is room for the first of two, and then for the second
+pub room_first : (s : Output) (xs ys : List ℕ) → HasRoom s (xs ++ ys) → HasRoom s xs
+room_first s xs ys r = record { room = omega (arith, r.room, length-append xs ys) }
+
+pub room_next : {s l : Output} {xs : List ℕ} (ys : List ℕ) → Adds s l xs → HasRoom s (xs ++ ys) → HasRoom l ys
+room_next {s} {l} {xs} ys p r =
+    let n : length l.bytes.now ≡ length s.bytes.now = ap length p.down ∙ length-placed s.bytes.now s.at xs in
+    record { room = omega (arith, r.room, p.next, length-append xs ys) }
+
+-- ---- the items of a section, i of them put
 
 module _ {A : Type 0} (laid : A → List ℕ) where
   laid-append : (xs ys : List A) → laid_all laid (xs ++ ys) ≡ laid_all laid xs ++ laid_all laid ys
@@ -134,10 +167,9 @@ module _ {A : Type 0} (laid : A → List ℕ) where
   unfolding laid_all
   laid_none = refl
 
-  module _ (m₀ : List ℕ) (at : ℕ) (xs : List A) where
-    pub down_none : (next : ℕ) → next ≡ at → Down laid m₀ at xs 0 m₀ next
-    unfolding laid_all
-    down_none next e = record { is = sym (placed_none m₀ at); goes = omega arith }
+  module _ (xs : List A) where
+    pub items_none : (s : Output) → Adds s s (laid_all laid (take 0 xs))
+    items_none s = adds_as (adds_none s) (sym laid_none)
 
     more : (i : ℕ) (x : A) → i < length xs → x ≡ get_or xs i x → laid_all laid (take (i + 1) xs) ≡ laid_all laid (take i xs) ++ laid x
     more i x h e =
@@ -146,37 +178,17 @@ module _ {A : Type 0} (laid : A → List ℕ) where
         ∙ laid-append (take i xs) (x ∷ [])
         ∙ ap (λ (l : List ℕ). laid_all laid (take i xs) ++ l) (laid-cons x [] ∙ ap (λ (l : List ℕ). laid x ++ l) laid_none ∙ append-nil (laid x))
 
-    pub down_more : (i next next' : ℕ) (x : A) (m m' : List ℕ) → Down laid m₀ at xs i m next → i < length xs → x ≡ get_or xs i x → m' ≡ placed m next (laid x) → next' ≡ next + length (laid x)
-        → Down laid m₀ at xs (i + 1) m' next'
-    down_more i next next' x m m' p h e q r = record {
-      is =
-          q
-          ∙ ap (λ (z : List ℕ). placed z next (laid x)) p.is
-          ∙ placed-next m₀ at next (laid_all laid (take i xs)) (laid x) p.goes
-          ∙ ap (placed m₀ at) (sym (more i x h e));
-      goes =
-          let l : length (laid_all laid (take (i + 1) xs)) ≡ length (laid_all laid (take i xs)) + length (laid x) = ap length (more i x h e) ∙ length-append (laid_all laid (take i xs)) (laid x) in
-          omega (arith, p.goes);
-    }
+    pub items_more : {s l m : Output} (i : ℕ) (x : A) → Adds s l (laid_all laid (take i xs)) → i < length xs → x ≡ get_or xs i x → Adds l m (laid x) → Adds s m (laid_all laid (take (i + 1) xs))
+    items_more i x p h e q = adds_as (adds_more p q) (sym (more i x h e))
 
-    pub down_room : (i next : ℕ) (x : A) (m : List ℕ) → Down laid m₀ at xs i m next → i < length xs → x ≡ get_or xs i x → at + length (laid_all laid xs) ≤ length m₀ → next + length (laid x) ≤ length m
-    down_room i next x m p h e k =
-        let f : laid_all laid xs ≡ laid_all laid (take i xs) ++ (laid x ++ laid_all laid (drop (suc i) xs)) =
+    pub items_room : {s l : Output} (i : ℕ) (x : A) → Adds s l (laid_all laid (take i xs)) → i < length xs → x ≡ get_or xs i x → HasRoom s (laid_all laid xs) → HasRoom l (laid x)
+    items_room {s} {l} i x p h e r =
+        let rest = laid_all laid (drop (suc i) xs) in
+        let f : laid_all laid xs ≡ laid_all laid (take i xs) ++ (laid x ++ rest) =
         ap (laid_all laid) (sym (take-append-drop i xs) ∙ ap (λ (l : List A). take i xs ++ l) (drop-cons xs i x h ∙ ap (λ (y : A). y ∷ drop (suc i) xs) (sym e)))
         ∙ laid-append (take i xs) (x ∷ drop (suc i) xs)
         ∙ ap (λ (l : List ℕ). laid_all laid (take i xs) ++ l) (laid-cons x (drop (suc i) xs)) in
-        let n : length (laid_all laid xs) ≡ length (laid_all laid (take i xs)) + (length (laid x) + length (laid_all laid (drop (suc i) xs))) =
-        ap length f ∙ length-append (laid_all laid (take i xs)) (laid x ++ laid_all laid (drop (suc i) xs)) ∙ ap (λ (j : ℕ). length (laid_all laid (take i xs)) + j) (length-append (laid x) (laid_all laid (drop (suc i) xs))) in
-        let l : length m ≡ length m₀ = ap length p.is ∙ length-placed m₀ at (laid_all laid (take i xs)) in
-        omega (arith, p.goes)
+        room_first l (laid x) rest (room_next (laid x ++ rest) p (subst (HasRoom s) f r))
 
--- all of them are down, behind the count
-pub section_down : {A : Type 0} (laid : A → List ℕ) (m₀ m₁ m : List ℕ) (at n next : ℕ) (xs : List A) (i : ℕ) → m₁ ≡ placed m₀ at (bytes 4 n)
-    → Down laid m₁ (at + 4) xs i m next → length xs ≤ i → m ≡ placed m₀ at (bytes 4 n ++ laid_all laid xs)
-section_down laid m₀ m₁ m at n next xs i e p h =
-    p.is
-    ∙ ap₂ (λ (z : List ℕ) (l : List _). placed z (at + 4) (laid_all laid l)) e (take_all i xs h)
-    ∙ placed-next m₀ at (at + 4) (bytes 4 n) (laid_all laid xs) (ap (λ (k : ℕ). at + k) (sym (length-bytes 4 n)))
-
-pub section_goes : {A : Type 0} (laid : A → List ℕ) (m₁ m : List ℕ) (at next : ℕ) (xs : List A) (i : ℕ) → Down laid m₁ at xs i m next → length xs ≤ i → next ≡ at + length (laid_all laid xs)
-section_goes laid m₁ m at next xs i p h = p.goes ∙ ap (λ (l : List _). at + length (laid_all laid l)) (take_all i xs h)
+    pub items_all : {s l : Output} (i : ℕ) → Adds s l (laid_all laid (take i xs)) → length xs ≤ i → Adds s l (laid_all laid xs)
+    items_all i p h = adds_as p (ap (laid_all laid) (take_all i xs h))

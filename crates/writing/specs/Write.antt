@@ -1,12 +1,14 @@
 -- The steps of writing a sheet: what refuses a content list by list, and what each step puts down (document 01, Length, writer, program). Definitions only.
 -- Assumes nothing.
-use Rattle.std.specs.Prelude.{ℕ, Option, Some, None, ◌++◌, ◌+◌, ◌*◌, ◌/◌, ◌≤◌, ◌<◌, ◌^◌, List, [], ◌∷◌, length, Float}
+use Rattle.std.specs.Prelude.{ℕ, Option, Some, None, ◌++◌, ◌+◌, ◌*◌, ◌/◌, ◌≡◌, ◌≤◌, ◌<◌, ◌^◌, List, [], ◌∷◌, length, Float}
 use Rattle.format.specs.declared.Settings.{Settings}
 use Rattle.format.specs.declared.Setting as code
 use Rattle.format.specs.declared.Content as lending
 use Rattle.format.specs.Setting.{Setting, said}
 use Rattle.format.specs.Content.{Content, max_vertices, max_triangles}
 use Rattle.format.specs.Bytes.{bytes}
+use Rattle.format.specs.Place.{placed}
+use Rattle.writing.specs.declared.putting.Output.{Output}
 use Rattle.format.specs.Sheet.{item_of}
 use Rattle.format.specs.Refusal.{◌then◌, each, over, unlike, coordinate_fault, vertex_fault, neighbour_fault, tag_fault, setting_fault, present}
 
@@ -68,3 +70,13 @@ pub record Fits (c : Content) (space : ℕ) : Type 0 where
   pub edges : length c.neighbours < 2 ^ 32
   pub tagged : length c.tags < 2 ^ 32
   pub room : 20 + 8 * length c.vertices + 4 * length c.triangles + 4 * length c.neighbours + length c.tags + 9 * length (present c.settings) ≤ space
+
+-- there is room for the bytes behind what stands in the output
+pub record HasRoom (out : Output) (laid : List ℕ) : Type 0 where
+  pub room : out.at + length laid ≤ length out.bytes.now
+
+-- The bytes are put behind what stands in the output, in the same lent bytes.
+pub record Adds (old new : Output) (laid : List ℕ) : Type 0 where
+  pub same : new.bytes.ghost_name ≡ old.bytes.ghost_name
+  pub down : new.bytes.now ≡ placed old.bytes.now old.at laid
+  pub next : new.at ≡ old.at + length laid

@@ -15,12 +15,12 @@ fn slots(s: Settings) -> [Option<Setting>; 6]
     ensures { given_in result ≡ present s }
 {
     [
-        s.limit.map(|v| Setting::Limit(v)),
-        s.tolerance.map(|x| Setting::Tolerance(x)),
-        s.step.map(|x| Setting::Step(x)),
-        s.x.map(|x| Setting::StartX(x)),
-        s.y.map(|x| Setting::StartY(x)),
-        s.room.map(|v| Setting::Room(v)),
+        s.limit.map(Setting::Limit),
+        s.tolerance.map(Setting::Tolerance),
+        s.step.map(Setting::Step),
+        s.x.map(Setting::StartX),
+        s.y.map(Setting::StartY),
+        s.room.map(Setting::Room),
     ]
 }
 

@@ -1,36 +1,59 @@
 // A sheet is put down section by section, each behind the one before it. Callers show the space.
 
-ghost use Rattle.std.specs.Prelude.{◌≡◌, ◌+◌, ◌≤◌, ◌++◌, ℕ, List, length};
+ghost use Rattle.std.specs.Prelude.{◌≡◌, ◌++◌, ℕ, List, length};
 ghost use Rattle.std.specs.Float.{binary64};
 ghost use Rattle.std.specs.Float.Ieee.{to_bits};
 ghost use Rattle.format.specs.Bytes.{bytes};
 ghost use Rattle.format.specs.Place.{placed};
 ghost use Rattle.format.specs.Sheet.{bytes_of};
-ghost use Rattle.writing.specs.Write.{lent, laid_all, slot_bytes, Fits};
+ghost use Rattle.writing.specs.Write.{lent, laid_all, slot_bytes, Fits, HasRoom, Adds};
 
-use format::bytes::put;
 use format::faults::pattern;
-use format::items::{kind, value};
 use format::{Content, Setting};
 
-// What a section holds, laid down as bytes. The place stands beside the bytes, and each step answers the next one: a struct of both would have to say in each contract that its bytes stay the same ones.
+// The bytes that are lent, and the place behind what stands in them. Text has a type of its own, since a method stands only in the crate of its type.
+#[derive(Drop)]
+struct Output<'a> {
+    bytes: &'a mut [u8],
+    at: usize,
+}
+
+impl Output<'_> {
+    fn put(&mut self, bytes: &[u8])
+        requires { HasRoom self.old bytes.now }
+        ensures { Adds self.old self.new bytes.now }
+    {
+        format::bytes::put(self.bytes, self.at, bytes);
+        self.at += bytes.len();
+    }
+
+    // A count, and the items behind it.
+    fn section<T: Item>(&mut self, count: u32, items: &[T])
+        requires { HasRoom self.old (bytes 4 count ++ laid_all T.laid items.now) }
+        ensures { Adds self.old self.new (bytes 4 count ++ laid_all T.laid items.now) }
+    {
+        self.put(&count.to_le_bytes());
+        for item in items {
+            item.put(self);
+        }
+    }
+}
+
+// What a section holds, laid down as bytes. Each type has an impl of its own: `to_le_bytes` is no method of a trait.
 trait Item: Copy {
     ghost laid: { Self → List ℕ };
 
-    // Puts the item down, and answers where the next one goes.
-    fn put(self, out: &mut [u8], at: usize) -> usize
-        requires { at + length (laid self) ≤ length out.old }
-        ensures down { out.new ≡ placed out.old at (laid self) }
-        ensures next { result ≡ at + length (laid self) };
+    fn put(self, out: &mut Output)
+        requires { HasRoom out.old (laid self) }
+        ensures { Adds out.old out.new (laid self) };
 }
 
 impl Item for f64 {
     ghost laid = { λ x. bytes 8 (to_bits binary64 x) };
 
     #[tactic(auto, unfolding(format::specs::Bytes::bytes))]
-    fn put(self, out: &mut [u8], at: usize) -> usize {
-        put(out, at, &pattern(self).to_le_bytes());
-        at + 8
+    fn put(self, out: &mut Output) {
+        out.put(&pattern(self).to_le_bytes());
     }
 }
 
@@ -38,9 +61,8 @@ impl Item for u32 {
     ghost laid = { λ x. bytes 4 x };
 
     #[tactic(auto, unfolding(format::specs::Bytes::bytes))]
-    fn put(self, out: &mut [u8], at: usize) -> usize {
-        put(out, at, &self.to_le_bytes());
-        at + 4
+    fn put(self, out: &mut Output) {
+        out.put(&self.to_le_bytes());
     }
 }
 
@@ -48,9 +70,8 @@ impl Item for u8 {
     ghost laid = { λ x. bytes 1 x };
 
     #[tactic(auto, unfolding(format::specs::Bytes::bytes))]
-    fn put(self, out: &mut [u8], at: usize) -> usize {
-        out[at] = self;
-        at + 1
+    fn put(self, out: &mut Output) {
+        out.put(&[self]);
     }
 }
 
@@ -59,30 +80,12 @@ impl Item for Option<Setting> {
     ghost laid = { slot_bytes };
 
     #[tactic(auto, unfolding(format::specs::Bytes::bytes))]
-    fn put(self, out: &mut [u8], at: usize) -> usize {
-        match self {
-            None => at,
-            Some(setting) => {
-                out[at] = kind(setting);
-                put(out, at + 1, &value(setting).to_le_bytes());
-                at + 9
-            }
+    fn put(self, out: &mut Output) {
+        if let Some(setting) = self {
+            out.put(&[setting.kind()]);
+            out.put(&setting.value().to_le_bytes());
         }
     }
-}
-
-// A count, and the items behind it; answers where the next section goes.
-fn put_section<T: Item>(out: &mut [u8], at: usize, count: u32, items: &[T]) -> usize
-    requires { at + 4 + length (laid_all T.laid items.now) ≤ length out.old }
-    ensures down { out.new ≡ placed out.old at (bytes 4 count ++ laid_all T.laid items.now) }
-    ensures next { result ≡ at + 4 + length (laid_all T.laid items.now) }
-{
-    put(out, at, &count.to_le_bytes());
-    let mut next = at + 4;
-    for item in items {
-        next = item.put(out, next);
-    }
-    next
 }
 
 // The sheet of a content. Its counts are u32 by `Fits`: `try_from` would have to refuse what cannot be.
@@ -90,14 +93,15 @@ pub fn put_sheet(content: &Content, out: &mut [u8])
     requires { Fits (lent content.now) (length out.old) }
     ensures { out.new ≡ placed out.old 0 (bytes_of (lent content.now)) }
 {
-    let n = (content.vertices.len() / 2) as u32;
-    let t = (content.triangles.len() / 3) as u32;
+    let n = content.vertex_count() as u32;
+    let t = content.triangle_count() as u32;
     let k = content.neighbours.len() as u32;
     let g = content.tags.len() as u32;
     let m = crate::present_count(content.settings) as u32;
-    let at = put_section(out, 0, n, content.vertices);
-    let at = put_section(out, at, t, content.triangles);
-    let at = put_section(out, at, k, content.neighbours);
-    let at = put_section(out, at, g, content.tags);
-    put_section(out, at, m, &crate::slots(content.settings));
+    let mut output = Output { bytes: out, at: 0 };
+    output.section(n, content.vertices);
+    output.section(t, content.triangles);
+    output.section(k, content.neighbours);
+    output.section(g, content.tags);
+    output.section(m, &crate::slots(content.settings));
 }

@@ -6,7 +6,6 @@ ghost use Rattle.format.specs.Refusal.{each, setting_fault, present, refusal_of}
 ghost use Rattle.writing.specs.Write.{lent, slot_fault, vertices_refusal, triangles_refusal, neighbours_refusal, tags_refusal, mesh_refusal};
 
 use format::faults::{coordinate_fault, each, neighbour_fault, tag_fault, vertex_fault};
-use format::items::{missing_fault, setting_fault};
 use format::{Content, Setting, Settings};
 use refusal::Refusal;
 
@@ -36,6 +35,7 @@ fn triangles_refusal(xs: &[u32], n: usize) -> Result<(), Refusal>
     each(xs, |x| vertex_fault(*x, n))
 }
 
+// t is a count that was not refused, so that 3t is no more than a usize.
 fn neighbours_refusal(xs: &[u32], t: usize) -> Result<(), Refusal>
     requires { t ≤ 8192 }
     ensures { fault result ≡ neighbours_refusal t xs.now }
@@ -58,8 +58,8 @@ fn tags_refusal(xs: &[u8], n: usize) -> Result<(), Refusal>
 fn mesh_refusal(content: &Content) -> Result<(), Refusal>
     ensures { let c = content.now in fault result ≡ mesh_refusal c.vertices.now c.triangles.now c.neighbours.now c.tags.now }
 {
-    let n = content.vertices.len() / 2;
-    let t = content.triangles.len() / 3;
+    let n = content.vertex_count();
+    let t = content.triangle_count();
     vertices_refusal(content.vertices)?;
     triangles_refusal(content.triangles, n)?;
     neighbours_refusal(content.neighbours, t)?;
@@ -70,7 +70,7 @@ fn slot_fault(slot: Option<Setting>) -> Result<(), Refusal>
     ensures { fault result ≡ slot_fault slot }
 {
     match slot {
-        Some(setting) => setting_fault(setting),
+        Some(setting) => setting.fault(),
         None => Ok(()),
     }
 }
@@ -88,5 +88,5 @@ pub fn content_refusal(content: &Content) -> Result<(), Refusal>
 {
     mesh_refusal(content)?;
     values_refusal(content.settings)?;
-    missing_fault(content.settings)
+    content.settings.missing_fault()
 }

@@ -15,8 +15,10 @@ returns-clause-put c =
     let m = c.args.mesh.now in
     let rs = rows_of m (length m.tags.now) in
     let few = rows_few m pre.mesh (length m.tags.now) (omega arith) in
-    let put = c.fill-5.ensures.put in
+    let rows = c.fill-5.ensures.put in
+    let put = rows.put in
     record {
+      same = record { starts = rows.same.starts; cols = rows.same.cols; values = rows.same.values };
       total = put.total;
       starts = put.start;
       columns =

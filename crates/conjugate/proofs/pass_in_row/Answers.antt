@@ -1,12 +1,11 @@
--- `pass_in_row` meets its contract: the halves of the halves are the vectors. Assumes nothing.
-use Rattle.std.proofs.Common.{sym, ◌∙◌}
+-- `pass_in_row` meets its contract: what is split off one by one are the vectors. Assumes nothing.
+use borrow.Author.Rules.{rules}
 use Rattle.sparse.specs.Matrix.{matrix_of}
-use Rattle.conjugate.specs.PlacedLaws.{passed_halves}
+use Rattle.conjugate.specs.PlacedLaws.{passed_split}
 use Rattle.conjugate.proofs.LawsPass.{length-matrix_of}
 use Rattle.conjugate.proofs.pass_in_row.Goals as goal
 
 pub returns : goal.returns
 returns c =
     let args = c.args in
-    passed_halves args.vectors.now args.n c.requires.1 (matrix_of args.a.now) _ _ args.tiny args.tolerance args.rs (length-matrix_of args.a.now ∙ sym c.requires.0)
-    c.split_at_mut-xr.ensures.front c.split_at_mut-xr.ensures.back c.pass_on_halves.ensures.passed c.pass_on_halves.ensures.cleared
+    passed_split args.vectors.now _ c.requires (matrix_of args.a.now) args.thresholds.tiny args.thresholds.tolerance args.rs (length-matrix_of args.a.now) (search rules) (search rules) (search rules) c.one_pass.ensures.passed c.one_pass.ensures.cleared

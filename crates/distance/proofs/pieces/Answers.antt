@@ -1,4 +1,5 @@
 -- `distance::pieces` meets its contract: where the square tells that the root makes one, two or three pieces it is so, and elsewhere its callees do it. Assumes nothing.
+-- The check finds `returns` alone. It stands so that a refusal names the fact.
 use mathlib.Core.Path.{sym, ap, ◌∙◌}
 use Rattle.std.proofs.lemmas.Float.{T_from_true}
 use lib.Ieee.{Float}

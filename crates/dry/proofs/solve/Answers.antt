@@ -5,4 +5,4 @@ use Rattle.dry.proofs.solve.Goals as goal
 
 pub loop-i-preserved : goal.loop-i-preserved
 loop-i-preserved c =
-    solved-more _ _ _ _ _ _ _ _ _ _ c.requires.0.ready c.matrix-a.ensures.is (omega (arith, c.requires.2)) c.if-s-ne0.false c.loop-i.invariant c.solve_once-s.ensures
+    solved-more _ _ _ _ _ _ _ _ _ _ c.requires.0.ready c.matrix-a.ensures.is (omega (arith, c.requires.2)) (c.is_solved.ensures.no c.if-is_solved.false) c.loop-i.invariant c.solve_once-s.ensures

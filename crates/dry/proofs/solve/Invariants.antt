@@ -3,4 +3,4 @@ use Rattle.dry.specs.Solving.{Solved}
 use Rattle.dry.proofs.solve.Given as goal
 
 abbrev pub invariant-loop-i : goal.invariant-loop-i
-invariant-loop-i l = Solved l.laid.plan l.laid.words.now l.floats l.initial.s l._i l.s l.copies
+invariant-loop-i l = Solved l.laid.counted.plan l.laid.words.now l.floats l.initial.s l._i l.s l.copies

@@ -6,17 +6,17 @@ use Rattle.gate.proofs.held_fault.Goals as goal
 pub returns-in_err-p : goal.returns-in_err-p
 returns-in_err-p c =
     let p = err_from_is_err_and c.from_residual.result c.from_residual.ensures.1 in
-    rw (p.1, p.2) (held_counts _ _ _ c.in_err-p.ensures.refused)
+    rw (p.1, p.2) (held_counts _ _ _ c.in_err-p.ensures.0)
 
 pub returns-in_err-space_fault : goal.returns-in_err-space_fault
 returns-in_err-space_fault c =
     let p = err_from_is_err_and c.from_residual-in_err-space_fault.result c.from_residual-in_err-space_fault.ensures.1 in
-    rw (p.1, p.2) (held-space _ _ _ c.in_ok-p.ensures.same c.in_ok-p.ensures.refused _ c.in_err-space_fault.ensures)
+    rw (p.1, p.2) (held-space _ _ _ c.in_ok-p.ensures.1 c.in_ok-p.ensures.0 _ c.in_err-space_fault.ensures)
 
 pub returns-then-sound : goal.returns-then-sound
 returns-then-sound c =
-    held_sound _ _ _ c.in_ok-p.ensures.same c.in_ok-p.ensures.refused _ _ _ _ c.in_ok-space_fault.ensures c.stand_sound.ensures c.mark_sound.ensures c.words_sound.ensures c.if-sound.true
+    held_sound _ _ _ c.in_ok-p.ensures.1 c.in_ok-p.ensures.0 _ _ _ _ c.in_ok-space_fault.ensures c.stand_sound.ensures c.mark_sound.ensures c.words_sound.ensures c.if-sound.true
 
 pub returns-else-sound : goal.returns-else-sound
 returns-else-sound c =
-    held_sound _ _ _ c.in_ok-p.ensures.same c.in_ok-p.ensures.refused _ _ _ _ c.in_ok-space_fault.ensures c.stand_sound.ensures c.mark_sound.ensures c.words_sound.ensures c.if-sound.false
+    held_sound _ _ _ c.in_ok-p.ensures.1 c.in_ok-p.ensures.0 _ _ _ _ c.in_ok-space_fault.ensures c.stand_sound.ensures c.mark_sound.ensures c.words_sound.ensures c.if-sound.false

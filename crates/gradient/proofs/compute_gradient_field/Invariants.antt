@@ -5,4 +5,4 @@ use Rattle.gradient.proofs.Laws.{up_to}
 use Rattle.gradient.proofs.compute_gradient_field.Given as goal
 
 abbrev pub invariant-loop-t : goal.invariant-loop-t
-invariant-loop-t l = l.out ≡ splice l.initial.out 0 (up_to l.flat l.mesh.vertices.now l.u l.mesh.triangles.now l.t)
+invariant-loop-t l = l.out ≡ splice l.initial.out 0 (up_to l.flat l.field.mesh.vertices.now l.field.values.now l.field.mesh.triangles.now l.t)

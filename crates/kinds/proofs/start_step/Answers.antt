@@ -5,4 +5,4 @@ use Rattle.kinds.proofs.start_step.Goals as goal
 pub returns : goal.returns
 returns c =
     let a = c.args in
-    start_sets_out a.laid.now.plan a.laid.now.words.now a.front.now c.requires.0.ready.linked a.stand c.at_x-u.ensures c.field-field.ensures c.find_start.ensures c.set_out.ensures
+    start_sets_out a.laid.now.counted.plan a.laid.now.words.now a.front.now c.requires.0.ready.linked a.stand c.at_x-u.ensures c.field-field.ensures c.find_start.ensures c.set_out.ensures

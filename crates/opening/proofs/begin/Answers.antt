@@ -7,10 +7,10 @@ use Rattle.work.proofs.LawsVectors.{starts}
 use Rattle.opening.proofs.LawsPlace.{begins_is}
 use Rattle.opening.proofs.begin.Goals as goal
 
-pub begin-rs-requires-clause-starts : goal.begin-rs-requires-clause-starts
-begin-rs-requires-clause-starts c =
+pub begin-rs-requires : goal.begin-rs-requires
+begin-rs-requires c =
     let long = simp length-splice at (ap length c.fill.ensures) in
-    starts _ _ _ c.requires.sound (omega (arith, long, c.requires.floats_fit))
+    record { starts = starts _ _ _ c.requires.sound (omega (arith, long, c.requires.floats_fit)) }
 
 pub returns : goal.returns
 returns c = begins_is _ _ _ _ _ _ _ _ _ _ _ c.at_gradients-gradients.ensures c.fill.ensures refl refl c.begin-rs.ensures c.at_norms-norms.ensures c.sqrt.ensures

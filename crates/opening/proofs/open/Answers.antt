@@ -8,10 +8,15 @@ use Rattle.opening.proofs.open.Goals as goal
 pub returns-in_err-h : goal.returns-in_err-h
 returns-in_err-h c = answers_refused _ _ _ _ c.from_residual.ensures.1 c.in_err-h.ensures
 
+pub invariant_of-counted : goal.invariant_of-counted
+invariant_of-counted c =
+    let counts : Counted c.plan_of-plan.result = counted_read _ (bytes_fit c.type_inv.sheet) _ c.in_ok-h.ensures _ c.plan_of-plan.ensures in
+    record { n_most = counts.vertices; t_most = counts.triangles }
+
 pub space-requires : goal.space-requires
 space-requires c =
     let counts : Counted c.plan_of-plan.result = counted_read _ (bytes_fit c.type_inv.sheet) _ c.in_ok-h.ensures _ c.plan_of-plan.ensures in
-    (counts.vertices, counts.triangles, counts.limit, counts.room)
+    (counts.limit, counts.room)
 
 pub returns-then-lacks : goal.returns-then-lacks
 returns-then-lacks c =

@@ -7,4 +7,4 @@ use Rattle.pass.proofs.cross_on.Given as goal
 
 abbrev pub invariant-loop-i : goal.invariant-loop-i
 invariant-loop-i l =
-    Standing l.laid.plan l.s × (l.s.place ≤ l.initial.s.place + l._i) × Comes (goes l.laid.plan l.laid.words.now l._i (work l.floats l.initial.path l.initial.s)) l.s l.floats l.path × (l.s.end ≡ 0 → ⊥) × (l.s.walk.points ≡ 0 → ⊥)
+    Standing l.laid.counted.plan l.s × (l.s.place ≤ l.initial.s.place + l._i) × Comes (goes l.laid.counted.plan l.laid.words.now l._i (work l.floats l.initial.path l.initial.s)) l.s l.floats l.path × (l.s.end ≡ 0 → ⊥) × (l.s.walk.points ≡ 0 → ⊥)

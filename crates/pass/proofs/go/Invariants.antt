@@ -6,4 +6,4 @@ use Rattle.pass.proofs.go.Given as goal
 
 abbrev pub invariant-loop-i : goal.invariant-loop-i
 invariant-loop-i l =
-    Standing l.laid.plan l.s × (l.s.place ≤ l.initial.s.place + l.i) × Comes (goes l.laid.plan l.laid.words.now l.i (work l.initial.floats l.initial.path l.initial.s)) l.s l.floats l.path
+    Standing l.laid.counted.plan l.s × (l.s.place ≤ l.initial.s.place + l.i) × Comes (goes l.laid.counted.plan l.laid.words.now l.i (work l.initial.floats l.initial.path l.initial.s)) l.s l.floats l.path

@@ -8,8 +8,8 @@ pub deliver-requires : goal.deliver-requires
 deliver-requires c =
     let a = c.args in
     let laid = a.laid.now in
-    writable laid.plan laid.words.now a.stand a.floats.now a.path.now _ _ (ready_of laid.ready) c.requires.0 c.requires.2
-    (stepped-length laid.plan laid.words.now a.stand a.floats.now c.step-d.new.front c.step-d.result c.at_norms-f.result c.step-d.ensures) refl
+    writable laid.counted.plan laid.words.now a.stand a.floats.now a.path.now _ _ (ready_of laid.ready) c.requires.0 c.requires.2
+    (stepped-length laid.counted.plan laid.words.now a.stand a.floats.now c.step-d.new.front c.step-d.result c.at_norms-f.result c.step-d.ensures) refl
 
 pub returns : goal.returns
 returns c = once_comes _ _ _ _ _ _ _ _ _ _ c.at_norms-f.ensures c.step-d.ensures c.deliver.ensures

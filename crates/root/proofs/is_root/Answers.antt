@@ -11,9 +11,9 @@ told q rest most e = let both = (and-eq-true_iff (ltb q rest) (leb rest most)).0
 
 pub returns : goal.returns
 returns c = λ e.
-    let operand = c.operand_of-operand in
+    let operand = c.of-operand.result in
     let q : ℕ = (c.args.pattern + (2 ^ 64 - ((c.args.g / 2 - 1) * 2 ^ 52 + 1))) % 2 ^ 64 in
     let rest = c.in-Some.rest in
     let t = told q rest _ e in
     let p : c.args.pattern ≡ (c.args.g / 2 - 1) * 2 ^ 52 + (q + 1) = omega arith in
-    sym (p ∙ pattern_is c.args.g c.args.m operand.result (q + 1) operand.ensures.0 (next_is operand.result q rest operand.ensures.1 c.in-Some.ensures (omega arith) (omega arith)))
+    sym (p ∙ pattern_is c.args.g c.args.m operand.digits (q + 1) c.of-operand.ensures (next_is operand.digits q rest operand.below c.in-Some.ensures (omega arith) (omega arith)))

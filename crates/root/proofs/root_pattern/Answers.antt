@@ -5,8 +5,8 @@ use Rattle.binary64.proofs.RootLaws.{pattern_is}
 use Rattle.root.proofs.root_pattern.Goals as goal
 
 pub overflow_add-result : goal.overflow_add-result
-overflow_add-result c = omega (arith, c.nearest_root.ensures, whole_root-lt 54 (c.operand_of-operand.result * 2 ^ 54))
+overflow_add-result c = omega (arith, c.nearest_root.ensures, whole_root-lt 54 (c.of-operand.result.digits * 2 ^ 54))
 
 pub returns : goal.returns
 returns c =
-    pattern_is c.args.g c.args.m c.operand_of-operand.result c.nearest_root.result c.operand_of-operand.ensures.0 c.nearest_root.ensures
+    pattern_is c.args.g c.args.m c.of-operand.result.digits c.nearest_root.result c.of-operand.ensures c.nearest_root.ensures

@@ -2,14 +2,14 @@
 -- Assumes nothing.
 use borrow.Author.Rules.{rules}
 use native.Mathlib.Omega.{arith}
-use mathlib.Core.Path.{◌≡◌, refl, ap, ◌∙◌}
+use mathlib.Core.Path.{refl, ap, ◌∙◌}
 use mathlib.Core.List.{[]}
-use Prim.Native.Nat.{ℕ, ◌-◌}
-use lib.ListN.{length, get_or, drop}
-use Rattle.std.proofs.lemmas.Result.{err_from_is_err_and}
+use lib.ListN.{get_or, drop}
 use Rattle.format.specs.Bytes.{number}
 use Rattle.format.specs.LeLaws.{from_eight}
 use Rattle.format.specs.Refusal.{setting_fault}
+use Rattle.format.specs.TriesLaws.{handed}
+use Rattle.sections.specs.Steps.{items_of}
 use Rattle.sections.proofs.Reading.{Item, taken_apart, none_is, err_fault, ok_said, read_none, read_all, read_low, read-fault, read_more}
 use Rattle.sections.proofs.read_items.Goals as goal
 
@@ -26,28 +26,27 @@ returns-then-kind-last c =
 
 pub returns-in_err-setting : goal.returns-in_err-setting
 returns-in_err-setting c =
-    let p = err_from_is_err_and c.from_residual.result c.from_residual.ensures.1 in
     let l = c.loop-item in
     let e = taken_apart c.args.items.now l.item-index c.unwrap.result.now c.from_le_bytes.result c.loop-item-test.true (omega arith) (c.told-items l.item-index c.loop-item-test.true) (search rules)
     (c.from_le_bytes.ensures ∙ from_eight c.unwrap.result.now) in
-    rw (p.1, p.2) (read-fault c.args.items.now l.last l.settings l.item-index _ _ l.invariant e _ c.if-kind-last.false (err_fault _ _ c.in_err-setting.ensures))
+    ap items_of (handed _ _ c.from_residual.ensures.1)
+    ∙ read-fault c.args.items.now l.last l.settings l.item-index _ _ l.invariant e _ c.if-kind-last.false (err_fault _ _ c.in_err-setting.ensures)
 
-pub returns-in_err-setting_fault : goal.returns-in_err-setting_fault
-returns-in_err-setting_fault c =
-    let p = err_from_is_err_and c.from_residual-in_err-setting_fault.result c.from_residual-in_err-setting_fault.ensures.1 in
+pub returns-in_err-fault : goal.returns-in_err-fault
+returns-in_err-fault c =
     let l = c.loop-item in
     let e = taken_apart c.args.items.now l.item-index c.unwrap.result.now c.from_le_bytes.result c.loop-item-test.true (omega arith) (c.told-items l.item-index c.loop-item-test.true) (search rules)
     (c.from_le_bytes.ensures ∙ from_eight c.unwrap.result.now) in
-    rw (p.1, p.2)
-    (read-fault c.args.items.now l.last l.settings l.item-index _ _ l.invariant e _ c.if-kind-last.false
-    (c.in_err-setting_fault.ensures ∙ ap setting_fault (ok_said _ _ c.in_ok-setting.ensures)))
+    ap items_of (handed _ _ c.from_residual-in_err-fault.ensures.1)
+    ∙ read-fault c.args.items.now l.last l.settings l.item-index _ _ l.invariant e _ c.if-kind-last.false
+    (c.in_err-fault.ensures ∙ ap setting_fault (ok_said _ _ c.in_ok-setting.ensures))
 
 pub loop-item-preserved : goal.loop-item-preserved
 loop-item-preserved c =
     let l = c.loop-item in
     let e = taken_apart c.args.items.now l.item-index c.unwrap.result.now c.from_le_bytes.result c.loop-item-test.true (omega arith) (c.told-items l.item-index c.loop-item-test.true) (search rules)
     (c.from_le_bytes.ensures ∙ from_eight c.unwrap.result.now) in
-    read_more c.args.items.now l.last l.settings l.item-index _ _ l.invariant e _ _ c.if-kind-last.false (ok_said _ _ c.in_ok-setting.ensures) c.in_ok-setting_fault.ensures c.add-settings.ensures
+    read_more c.args.items.now l.last l.settings l.item-index _ _ l.invariant e _ _ c.if-kind-last.false (ok_said _ _ c.in_ok-setting.ensures) c.in_ok-fault.ensures c.with-settings.ensures
 
 pub returns : goal.returns
 returns c = read_all _ _ _ _ c.loop-item.invariant c.loop-item-test.false

@@ -1,28 +1,22 @@
--- `sections::tags_fault` meets its contract: its head is tested, and then each number through the part behind the count.
+-- `sections::tags_fault` meets its contract: its head is tested, and then each number of its items.
 -- Assumes nothing.
 use borrow.Author.Rules.{rules}
-use mathlib.Core.Path.{◌≡◌, ap, ◌∙◌}
-use Rattle.std.proofs.lemmas.Result.{err_from_is_err_and}
-use lib.ListN.{get_or}
-use Rattle.refusal.specs.Refusal.{fault}
-use Rattle.format.specs.Refusal.{unlike, tag_fault}
+use mathlib.Core.Path.{◌∙◌}
 use Rattle.format.specs.Sheet.{tags_fault}
-use Rattle.format.specs.TriesLaws.{fault_first}
-use Rattle.sections.proofs.Scan.{tested, number-one}
+use Rattle.format.specs.TriesLaws.{handed_on, fault_first}
+use Rattle.sections.proofs.Scan.{tags_tested}
 use Rattle.sections.proofs.tags_fault.Goals as goal
 
 pub returns-in_err-section-clause-refused : goal.returns-in_err-section-clause-refused
 unfolding tags_fault
-returns-in_err-section-clause-refused c =
-    let p = err_from_is_err_and c.from_residual.result c.from_residual.ensures.1 in
-    rw (p.1, p.2) (fault_first _ _ c.in_err-section.ensures.refused)
+returns-in_err-section-clause-refused c = handed_on _ _ c.from_residual.ensures.1 ∙ fault_first _ _ c.in_err-section.ensures.refused
 
 pub returns-in_err-each-clause-refused : goal.returns-in_err-each-clause-refused
-unfolding tags_fault
 returns-in_err-each-clause-refused c =
-    let p = err_from_is_err_and c.from_residual-in_err-each.result c.from_residual-in_err-each.ensures.1 in
-    rw (p.1, p.2) (tested (unlike c.args.n) tag_fault 1 1 _ _ c.args.s.now _ _ _ (λ x y p. let h : fault y ≡ tag_fault (get_or x 0 0) = search rules in h ∙ ap tag_fault (number-one x)) c.in_ok-section.ensures.refused c.numbers.ensures c.in_ok-section.ensures.follows.counted c.in_err-each.ensures)
+    let h = c.in_ok-section.ensures in
+    handed_on _ _ c.from_residual-in_err-each.ensures.1 ∙ tags_tested _ _ _ _ _ c.args.n (λ x y p. search rules) h.refused h.follows.items c.as_chunks.ensures.front c.in_err-each.ensures
 
 pub returns-clause-refused : goal.returns-clause-refused
-unfolding tags_fault
-returns-clause-refused c = tested (unlike c.args.n) tag_fault 1 1 _ _ c.args.s.now _ _ _ (λ x y p. let h : fault y ≡ tag_fault (get_or x 0 0) = search rules in h ∙ ap tag_fault (number-one x)) c.in_ok-section.ensures.refused c.numbers.ensures c.in_ok-section.ensures.follows.counted c.in_ok-each.ensures
+returns-clause-refused c =
+    let h = c.in_ok-section.ensures in
+    tags_tested _ _ _ _ _ c.args.n (λ x y p. search rules) h.refused h.follows.items c.as_chunks.ensures.front c.in_ok-each.ensures

@@ -1,31 +1,22 @@
--- `sections::vertices_fault` meets its contract: its head is tested, and then each number through the part behind the count.
+-- `sections::vertices_fault` meets its contract: its head is tested, and then each number of its items.
 -- Assumes nothing.
 use borrow.Author.Rules.{rules}
-use mathlib.Core.Path.{◌≡◌, sym, ap, ◌∙◌}
-use Prim.Native.Nat.{ℕ, ◌*◌}
-use Rattle.std.proofs.lemmas.Result.{err_from_is_err_and}
-use Rattle.std.specs.Int.{from_le_bytes, w64}
-use Rattle.refusal.specs.Refusal.{fault}
-use Rattle.format.specs.Content.{max_vertices}
-use Rattle.format.specs.Refusal.{◌then◌, over}
-use Rattle.format.specs.Sheet.{head_fault, vertices_fault}
-use Rattle.format.specs.TriesLaws.{fault_first}
-use Rattle.format.specs.LeLaws.{from_eight}
-use Rattle.sections.proofs.Scan.{tested, pattern_fault, patterns}
+use mathlib.Core.Path.{◌∙◌}
+use Rattle.format.specs.Sheet.{vertices_fault}
+use Rattle.format.specs.TriesLaws.{handed_on, fault_first}
+use Rattle.sections.proofs.Scan.{vertices_tested}
 use Rattle.sections.proofs.vertices_fault.Goals as goal
 
 pub returns-in_err-section-clause-refused : goal.returns-in_err-section-clause-refused
 unfolding vertices_fault
-returns-in_err-section-clause-refused c =
-    let p = err_from_is_err_and c.from_residual.result c.from_residual.ensures.1 in
-    rw (p.1, p.2) (fault_first _ _ c.in_err-section.ensures.refused)
+returns-in_err-section-clause-refused c = handed_on _ _ c.from_residual.ensures.1 ∙ fault_first _ _ c.in_err-section.ensures.refused
 
 pub returns-in_err-each-clause-refused : goal.returns-in_err-each-clause-refused
-unfolding vertices_fault
 returns-in_err-each-clause-refused c =
-    let p = err_from_is_err_and c.from_residual-in_err-each.result c.from_residual-in_err-each.ensures.1 in
-    rw (p.1, p.2) (tested (over max_vertices) pattern_fault 16 8 _ _ c.args.s.now _ _ _ (λ x y p. let h : fault y ≡ pattern_fault (from_le_bytes w64 x) = search rules in h ∙ ap pattern_fault (from_eight x)) c.in_ok-section.ensures.refused c.numbers.ensures (ap (λ (n : ℕ). 2 * n) c.in_ok-section.ensures.follows.counted) c.in_err-each.ensures ∙ ap (λ (k : ℕ). head_fault (over max_vertices) 16 c.args.s.now then k) (sym (patterns _)))
+    let h = c.in_ok-section.ensures in
+    handed_on _ _ c.from_residual-in_err-each.ensures.1 ∙ vertices_tested _ _ _ _ _ (λ x y p. search rules) h.refused h.follows.items c.as_chunks.ensures.front c.in_err-each.ensures
 
 pub returns-clause-refused : goal.returns-clause-refused
-unfolding vertices_fault
-returns-clause-refused c = tested (over max_vertices) pattern_fault 16 8 _ _ c.args.s.now _ _ _ (λ x y p. let h : fault y ≡ pattern_fault (from_le_bytes w64 x) = search rules in h ∙ ap pattern_fault (from_eight x)) c.in_ok-section.ensures.refused c.numbers.ensures (ap (λ (n : ℕ). 2 * n) c.in_ok-section.ensures.follows.counted) c.in_ok-each.ensures ∙ ap (λ (k : ℕ). head_fault (over max_vertices) 16 c.args.s.now then k) (sym (patterns _))
+returns-clause-refused c =
+    let h = c.in_ok-section.ensures in
+    vertices_tested _ _ _ _ _ (λ x y p. search rules) h.refused h.follows.items c.as_chunks.ensures.front c.in_ok-each.ensures

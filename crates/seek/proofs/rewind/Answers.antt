@@ -4,8 +4,8 @@ use Rattle.work.proofs.LawsVectors.{starts}
 use Rattle.seek.proofs.LawsSeek.{rewinds}
 use Rattle.seek.proofs.rewind.Goals as goal
 
-pub begin-rs-requires-clause-starts : goal.begin-rs-requires-clause-starts
-begin-rs-requires-clause-starts c = starts c.args.laid.now.plan.n c.args.laid.now.plan.t _ c.args.laid.now.ready.sound (omega (arith, c.requires.1))
+pub begin-rs-requires : goal.begin-rs-requires
+begin-rs-requires c = record { starts = starts c.args.laid.now.counted.plan.n c.args.laid.now.counted.plan.t _ c.args.laid.now.ready.sound (omega (arith, c.requires.1)) }
 
 pub returns : goal.returns
 returns c = rewinds _ _ _ _ _ _ _ _ _ _ c.begin-rs.ensures c.erase_gradients.ensures c.erase_norms.ensures c.at_norms-k.ensures c.sqrt.ensures

@@ -1,18 +1,15 @@
--- `first_inner_edge` meets its contract: before a triangle, what is left of the search is the whole of it. Assumes nothing.
-use Rattle.std.proofs.Common.{sym, ◌∙◌, arith}
-use Rattle.pde.specs.SearchLaws.{left-all, left_skip, left_found, left_done}
-use Rattle.pde.specs.Start.{first_inner}
+-- `first_inner_edge` meets its contract: what `find_map` finds is the first inner edge of a triangle. Assumes nothing.
+use Rattle.std.proofs.Common.{ℕ, Option, rules, tests, arith}
+use Rattle.std.proofs.lemmas.Iterator.{YieldsList-from_range}
+use Rattle.pde.specs.declared.Entry.{Entry}
+use Rattle.pde.specs.SearchLaws.{mapped_first}
+use Rattle.pde.specs.Start.{inner_edge_of, first_inner}
 use Rattle.starts.proofs.first_inner_edge.Goals as goal
 
-pub loop-t-init : goal.loop-t-init
-unfolding first_inner
-loop-t-init c = left-all _ _
-
-pub returns-in-Some : goal.returns-in-Some
-returns-in-Some c = left_found _ _ _ (omega (arith, c.loop-t-test.true, c.triangle_count-t-end.ensures)) (sym c.inner_edge_of.ensures ∙ c.in-Some.is) c.loop-t.invariant
-
-pub loop-t-preserved : goal.loop-t-preserved
-loop-t-preserved c = left_skip _ _ _ (omega (arith, c.loop-t-test.true, c.triangle_count-t-end.ensures)) (sym c.inner_edge_of.ensures ∙ c.in_default.is) c.loop-t.invariant
-
 pub returns : goal.returns
-returns c = left_done _ _ _ (omega (arith, c.loop-t-test.false, c.triangle_count-t-end.ensures)) c.loop-t.invariant
+unfolding first_inner
+returns c =
+    let m = c.args.mesh.now in
+    let n = c.triangle_count.result in
+    let h : ℕ → Option Entry = inner_edge_of m.vertices.now m.triangles.now m.neighbours.now m.tags.now in
+    rw (← c.triangle_count.ensures) (mapped_first _ h n _ c.find_map.ensures.runs (YieldsList-from_range 0 n n (cc) (omega arith)) (λ x o q k. search (rules, tests)))

@@ -4,4 +4,4 @@ use Rattle.stretch.proofs.LoopLaws.{pasted_is}
 use Rattle.stretch.proofs.copy.Goals as goal
 
 pub returns : goal.returns
-returns g c = c.copy_within.ensures.after ∙ pasted_is c.args.s.now c.args.src (c.args.src + c.args.n) c.args.at c.args.n refl c.requires.from c.requires.to
+returns g c = c.copy_within.ensures.after ∙ pasted_is c.args.s.now c.args.src (c.args.src + c.args.n) c.args.at c.args.n refl c.requires.0 c.requires.1

@@ -1,4 +1,4 @@
--- `Slope::area2` meets its contract: the code has the operations of the definition, in its order. Assumes nothing.
+-- `Slope::area2` meets its contract: the code has the operations of the definition, in its order. Assumes nothing. It stands so that a refusal names the fact.
 use Rattle.std.proofs.Common.{refl}
 use Rattle.mesh.proofs.Slope.area2.Goals as goal
 

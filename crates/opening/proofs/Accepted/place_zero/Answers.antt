@@ -6,7 +6,7 @@ use Rattle.opening.proofs.LawsPlace.{read_of, suffices_by, fits_read, path_fits,
 use Rattle.opening.proofs.Accepted.place_zero.Goals as goal
 
 pub lay_out-requires : goal.lay_out-requires
-lay_out-requires c = fits_read _ _ _ (buffers _ _ _) (suffices_by (read_of c.args.self.now.is c.args.self.now.below) c.requires)
+lay_out-requires c = (c.requires.0, fits_read _ _ _ (buffers _ _ _) (suffices_by (read_of c.args.self.now.is c.args.self.now.below) c.requires))
 
 pub begin-rs-requires : goal.begin-rs-requires
 begin-rs-requires c = begins_read _ _ _ (buffers _ _ _) (suffices_by (read_of c.args.self.now.is c.args.self.now.below) c.requires) _ _ c.lay_out.ensures (search rules)

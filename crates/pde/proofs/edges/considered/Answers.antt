@@ -10,4 +10,4 @@ returns-then-e-entry c = rw (eq-eqb _ _ c.if-e-entry.true)
 
 pub returns : goal.returns
 unfolding considered
-returns c = rw (ne_eqb _ _ c.if-e-entry.false) (c.offered.ensures ∙ rw (c.get_ray_line_intersection-hit.ensures, c.corner_point-b.ensures, c.corner_point-a.ensures, c.onward.ensures.0))
+returns c = rw (ne_eqb _ _ c.if-e-entry.false) (c.offered.ensures ∙ rw (c.get_ray_line_intersection-hit.ensures, c.corner_point-b.ensures, c.corner_point-a.ensures, c.onward.ensures))

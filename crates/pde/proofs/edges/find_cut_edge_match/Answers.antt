@@ -1,25 +1,16 @@
--- `edges::find_cut_edge_match` meets its contract: before a triangle, what is left of the search is the whole of it. Assumes nothing.
-use Rattle.std.proofs.Common.{sym, ◌∙◌, arith}
-use Rattle.pde.specs.SearchLaws.{left-all, left_skip, left_found, left_done}
-use Rattle.pde.specs.Exit.{cut_match}
-use Rattle.pde.proofs.EdgeLaws.{cut_here, cut_other}
+-- `edges::find_cut_edge_match` meets its contract: what `find_map` finds is the first answer of another triangle. Assumes nothing.
+use Rattle.std.proofs.Common.{ℕ, Option, rules, tests, arith}
+use Rattle.std.proofs.lemmas.Iterator.{YieldsList-from_range}
+use Rattle.mesh.specs.Mesh.{triangle_count}
+use Rattle.pde.specs.declared.Side.{Side}
+use Rattle.pde.specs.Exit.{cut_triangle, cut_match}
+use Rattle.pde.specs.SearchLaws.{mapped_first}
 use Rattle.pde.proofs.edges.find_cut_edge_match.Goals as goal
 
-pub loop-t-init : goal.loop-t-init
-unfolding cut_match
-loop-t-init c = rw (c.corner-a.ensures.is, c.corner-b.ensures.is, c.onward.ensures.0) (left-all _ _)
-
-pub loop-t-preserved-then-t-here : goal.loop-t-preserved-then-t-here
-loop-t-preserved-then-t-here c =
-    left_skip _ _ _ (omega (arith, c.loop-t-test.true, c.triangle_count-t-end.ensures)) (cut_here _ _ _ _ _ _ c.if-t-here.true) c.loop-t.invariant
-
-pub returns-in-Some : goal.returns-in-Some
-returns-in-Some c =
-    left_found _ _ _ (omega (arith, c.loop-t-test.true, c.triangle_count-t-end.ensures)) (cut_other _ _ _ _ _ _ c.if-t-here.false ∙ sym c.cut_edge_of.ensures ∙ c.in-Some.is) c.loop-t.invariant
-
-pub loop-t-preserved : goal.loop-t-preserved
-loop-t-preserved c =
-    left_skip _ _ _ (omega (arith, c.loop-t-test.true, c.triangle_count-t-end.ensures)) (cut_other _ _ _ _ _ _ c.if-t-here.false ∙ sym c.cut_edge_of.ensures ∙ c.in_default.is) c.loop-t.invariant
-
 pub returns : goal.returns
-returns c = left_done _ _ _ (omega (arith, c.loop-t-test.false, c.triangle_count-t-end.ensures)) c.loop-t.invariant
+unfolding cut_match
+returns c =
+    let n = triangle_count c.args.triangles.now in
+    let h : ℕ → Option Side = cut_triangle c.args.triangles.now c.args.neighbours.now c.args.here c.corner-a.result c.corner-b.result in
+    rw (← c.onward.ensures, ← c.corner-b.ensures.is, ← c.corner-a.ensures.is)
+    (mapped_first _ h n _ c.find_map.ensures.runs (YieldsList-from_range 0 n n (cc) (omega arith)) (λ x o q k. search (rules, tests)))

@@ -1,12 +1,10 @@
 -- `sheet::items::corner` meets its contract: an item that is whole is read, and else the answer is 0.
 -- Assumes nothing.
 use native.Mathlib.Omega.{arith}
-use mathlib.Core.Path.{sym, ap, ◌∙◌}
-use lib.Dec.{ltb}
+use mathlib.Core.Path.{◌∙◌}
 use Rattle.format.specs.LeLaws.{from_four}
-use Rattle.format.specs.RefusalLaws.{pick_true, pick_false}
 use Rattle.sheet.specs.Items.{whole_in}
-use Rattle.sheet.proofs.Pieces.{in_item}
+use Rattle.sheet.proofs.Pieces.{in_item, an_item, no_item}
 use Rattle.sheet.proofs.items.corner.Goals as goal
 
 pub returns-in-Some : goal.returns-in-Some
@@ -17,8 +15,8 @@ returns-in-Some c =
     let items = c.as_chunks.ensures in
     c.from_le_bytes.ensures ∙ from_four c.in-Some.item.now
     ∙ in_item 4 a.i a.part.now _ c.in-Some.item.now items.front items.front_len found.3.0 found.1 4 0 _ (omega arith) (omega arith)
-    ∙ sym (pick_true _ _ (sym (found.0 ∙ ap (ltb a.i) items.front_len)))
+    ∙ an_item _ _ _ _ _ found.0 items.front_len
 
 pub returns-in-None : goal.returns-in-None
 unfolding whole_in
-returns-in-None c = sym (pick_false _ _ (sym (c.in-None.ensures.lookup.0 ∙ ap (ltb c.args.i) c.as_chunks.ensures.front_len)))
+returns-in-None c = no_item _ _ _ _ _ c.in-None.ensures.lookup.0 c.as_chunks.ensures.front_len

@@ -1,6 +1,5 @@
 -- `showing::parts::within` meets its contract. Assumes nothing.
 use native.Mathlib.Omega.{arith}
-use borrow.Author.Rules.{rules}
 use Rattle.showing.proofs.LawsParts.{within_none, within_all}
 use Rattle.showing.proofs.parts.within.Goals as goal
 

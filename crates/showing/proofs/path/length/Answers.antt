@@ -1,4 +1,4 @@
--- `length` meets its contract: it is the path's length. Assumes nothing.
+-- `length` meets its contract: it is the path's length. Assumes nothing. It stands so that a refusal names the fact.
 use Rattle.showing.proofs.path.length.Goals as goal
 
 pub returns : goal.returns

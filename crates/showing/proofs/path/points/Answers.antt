@@ -6,7 +6,6 @@ use borrow.Author.Tests.{lt-leb, le-leb}
 use lib.ListN.{length}
 use lib.Seq.{length-take-le}
 use Rattle.image.specs.Points.{points_of}
-use borrow.Author.Rules.{rules}
 use Rattle.showing.proofs.path.points.Goals as goal
 
 pub returns-then-path-count : goal.returns-then-path-count

@@ -6,4 +6,4 @@ use Rattle.work.proofs.vectors.begin_behind.Goals as goal
 
 pub returns-clause-begun : goal.returns-clause-begun
 unfolding part
-returns-clause-begun c = begun_behind _ _ _ _ _ _ _ _ _ c.matrix-a.ensures.is (search rules) (search rules) c.begin_in_row.ensures
+returns-clause-begun c = begun_behind _ _ _ _ _ _ _ _ _ c.matrix-a.ensures.long c.matrix-a.ensures.is (search rules) (search rules) c.begin_in_row.ensures

@@ -1,7 +1,7 @@
-use Rattle.std.proofs.Common.{rules}
-use Rattle.laplace.specs.Element.{triangle_of}
+use Rattle.laplace.proofs.LawsElement.{triangle_is, triangle-within}
 use Rattle.laplace.proofs.element.Elements.triangle.Goals as goal
 
 pub returns : goal.returns
-unfolding triangle_of
-returns c = search rules
+returns c =
+    let is = triangle_is _ _ _ c.as_chunks.ensures.front c.requires in
+    record { is = is; below = λ n b. rw is (triangle-within n _ _ b c.requires) }

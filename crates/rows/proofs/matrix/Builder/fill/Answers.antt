@@ -7,12 +7,8 @@ pub loop-r-init : goal.loop-r-init
 loop-r-init c =
     let pre = c.requires in
     record {
-      same_matrix = record { starts = refl; cols = refl; values = refl };
-      same_row = record { values = refl; cols = refl };
-      values = refl;
-      cols = refl;
-      empty = pre.0.empty;
-      put = rw pre.1 (rows_none _ pre.0.ready.mesh _ _ _);
+      row = record { same = record { values = refl; cols = refl }; values = refl; cols = refl; empty = pre.0.empty };
+      put = record { same = record { starts = refl; cols = refl; values = refl }; put = rw pre.1 (rows_none _ pre.0.ready.mesh _ _ _) };
     }
 
 pub put_row-requires : goal.put_row-requires
@@ -20,21 +16,21 @@ put_row-requires c =
     let pre = c.requires in
     let s = c.loop-r.invariant in
     let y = pre.0.ready in (
-      record { ready = ready_on _ _ _ _ _ _ y _ _ _ _ _ s.put _ _ s.values s.cols; empty = s.empty },
+      record { ready = ready_on _ _ _ _ _ _ y _ _ _ _ _ s.put.put _ _ s.row.values s.row.cols; empty = s.row.empty },
       c.loop-r-test.true,
-      rows_room _ y.mesh _ _ _ _ c.loop-r-test.true _ _ _ _ s.put,
+      rows_room _ y.mesh _ _ _ _ c.loop-r-test.true _ _ _ _ s.put.put,
     )
 
 pub loop-r-preserved : goal.loop-r-preserved
 loop-r-preserved c =
-    let pre = c.requires in
     let s = c.loop-r.invariant in
     let done = c.put_row.ensures in
+    let row = done.row in
+    let rows = done.put in
     record {
-      same_matrix = record { starts = done.same.0.starts ∙ s.same_matrix.starts; cols = done.same.0.cols ∙ s.same_matrix.cols; values = done.same.0.values ∙ s.same_matrix.values };
-      same_row = record { values = done.same.1.values ∙ s.same_row.values; cols = done.same.1.cols ∙ s.same_row.cols };
-      values = done.row.0 ∙ s.values;
-      cols = done.row.1 ∙ s.cols;
-      empty = done.row.2;
-      put = rows_again _ pre.0.ready.mesh _ _ _ _ c.loop-r-test.true _ _ _ _ s.put _ _ _ _ done.put;
+      row = record { same = record { values = row.same.values ∙ s.row.same.values; cols = row.same.cols ∙ s.row.same.cols }; values = row.values ∙ s.row.values; cols = row.cols ∙ s.row.cols; empty = row.empty };
+      put = record {
+        same = record { starts = rows.same.starts ∙ s.put.same.starts; cols = rows.same.cols ∙ s.put.same.cols; values = rows.same.values ∙ s.put.same.values };
+        put = rows_again _ c.requires.0.ready.mesh _ _ _ _ c.loop-r-test.true _ _ _ _ s.put.put _ _ _ _ rows.put;
+      };
     }

@@ -35,8 +35,8 @@ loop-c-preserved c =
     let b = rw pre.1 at pre.0 in
     record { same = search rules; walking = walk_again _ _ _ _ _ _ b c.args.corners.now.linked pre.2 _ _ _ _ c.loop-c.invariant.walking c.loop-c-test.true _ _ _ c.add_corner.ensures.written _ refl }
 
-pub returns-clause-written : goal.returns-clause-written
-returns-clause-written c =
+pub returns : goal.returns
+returns c =
     let pre = c.requires in
     let b = rw pre.1 at pre.0 in
-    walk_done _ _ _ _ _ _ b c.args.corners.now.linked pre.2 _ _ _ _ (omega arith) c.loop-c.invariant.walking
+    record { same = c.loop-c.invariant.same; written = walk_done _ _ _ _ _ _ b c.args.corners.now.linked pre.2 _ _ _ _ (omega arith) c.loop-c.invariant.walking }

@@ -1,27 +1,23 @@
--- Each of the three calls places an entry after what the calls before it have written. Assumes nothing.
-use Rattle.laplace.specs.Row.{three_placed}
-use Rattle.laplace.proofs.LawsRow.{tidy_placed, building_on, placed_on}
+-- What the columns and values ahead add to the entries so far is what all add to those at entry. Assumes nothing.
+use Rattle.std.proofs.Common.{rules}
+use mathlib.Core.Logic.{inl, inr}
+use Rattle.laplace.proofs.LawsRow.{place_none, place_building, place_below, place_again, place_done}
 use Rattle.rows.proofs.row.Row.place_three.Goals as goal
 
-pub place-requires-2 : goal.place-requires-2
-place-requires-2 c =
-    let b = c.requires.0 in
-    let q = c.requires.1 in
-    (building_on _ _ _ _ b _ _ _ _ c.place.ensures.written (tidy_placed _ _ _ _ _ q.i b.tidy), q.j)
+pub loop-j-init : goal.loop-j-init
+loop-j-init c = record { same = search rules; placing = place_none _ _ _ _ c.requires.0 _ _ c.requires.1 _ _ (search rules) (search rules) }
 
-pub place-requires-3 : goal.place-requires-3
-place-requires-3 c =
-    let b = c.requires.0 in
-    let q = c.requires.1 in
-    let first = tidy_placed _ _ _ _ _ q.i b.tidy in
-    let second = placed_on _ _ _ _ b _ _ _ _ c.place.ensures.written first _ _ _ _ _ c.place-2.ensures.written in
-    (building_on _ _ _ _ b _ _ _ _ second (tidy_placed _ _ _ _ _ q.j first), q.k)
+pub place-requires : goal.place-requires
+place-requires c =
+    let p = c.loop-j.invariant.placing in
+    let s = c.in-Some.ensures.steps in
+    (place_building _ _ _ _ c.requires.0 _ _ _ _ _ _ _ p, place_below _ _ _ _ c.requires.0 _ _ _ _ _ _ _ p _ _ _ _ s.0 s.1)
 
-pub returns-clause-written : goal.returns-clause-written
-unfolding three_placed
-returns-clause-written c =
-    let b = c.requires.0 in
-    let q = c.requires.1 in
-    let first = tidy_placed _ _ _ _ _ q.i b.tidy in
-    let second = placed_on _ _ _ _ b _ _ _ _ c.place.ensures.written first _ _ _ _ _ c.place-2.ensures.written in
-    placed_on _ _ _ _ b _ _ _ _ second (tidy_placed _ _ _ _ _ q.j first) _ _ _ _ _ c.place-3.ensures.written
+pub loop-j-preserved : goal.loop-j-preserved
+loop-j-preserved c =
+    let s = c.in-Some.ensures.steps in
+    record { same = search rules; placing = place_again _ _ _ _ c.requires.0 _ _ _ _ _ _ _ c.loop-j.invariant.placing _ _ _ _ s.0 s.1 _ _ _ c.place.ensures.written }
+
+pub returns : goal.returns
+returns c =
+    record { same = c.loop-j.invariant.same; written = place_done _ _ _ _ c.requires.0 _ _ _ _ _ _ _ c.loop-j.invariant.placing (elim c.in-None.ensures.steps [ inl u ↦ inl u.1.0 | inr u ↦ inr u.1.0 ]) }

@@ -11,5 +11,5 @@ returns c =
     let n = length_digits a.base a.k a.n in
     record {
       same = refl;
-      put = puts (put_is _ _ _ _ _ _ (c.fill_digits.ensures ∙ ap (λ (k : ℕ). digits a.base k a.n) (ap length (part_lent _ _ _ _ refl) ∙ length_part _ _ _ c.requires.0)) n refl c.requires.0) (ap (λ (k : ℕ). a.self.now.len + k) (sym n));
+      put = puts (put_is _ _ _ _ _ _ (c.fill_digits.ensures ∙ ap (λ (k : ℕ). digits a.base k a.n) (ap length (part_lent _ _ _ _ refl) ∙ length_part _ _ _ c.requires.0)) n refl c.requires.0) (ap (λ (k : ℕ). a.self.now.at + k) (sym n));
     }

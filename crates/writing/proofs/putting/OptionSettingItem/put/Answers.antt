@@ -1,27 +1,20 @@
--- `writing::putting::OptionSettingItem::put` meets its contract: a kind and a value are an item, by `item_put`.
+-- `writing::putting::OptionSettingItem::put` meets its contract: a kind and a value are an item, by `slot_laid`.
 -- Assumes nothing.
 use native.Mathlib.Omega.{arith}
-use mathlib.Core.Path.{sym, ap, ap₂, ◌∙◌}
-use Prim.Native.Nat.{ℕ, ◌+◌, ◌*◌}
-use lib.ListN.{set}
-use Rattle.std.specs.Prelude.{Option}
-use Rattle.format.specs.declared.Setting as code
-use Rattle.format.specs.Bytes.{bytes}
-use Rattle.format.specs.Place.{placed}
-use Rattle.format.specs.Sheet.{item_of}
-use Rattle.format.specs.PlaceLaws.{placed_none}
+use mathlib.Core.Path.{sym, ap, ◌∙◌}
 use Rattle.format.specs.LeLaws.{to_eight}
 use Rattle.writing.specs.Write.{slot_bytes}
-use Rattle.writing.proofs.Puts.{item_put}
+use Rattle.writing.proofs.Puts.{slot_laid, adds_none, adds_more, adds_as, room_as, room_next}
 use Rattle.writing.proofs.putting.OptionSettingItem.put.Goals as goal
 
-pub returns-in-None-clause-down : goal.returns-in-None-clause-down
-returns-in-None-clause-down c = sym (ap (λ (w : Option code.Setting). placed c.args.out.now c.args.at (slot_bytes w)) c.in-None.is ∙ placed_none _ _)
-
-pub returns-in-Some-clause-down : goal.returns-in-Some-clause-down
-unfolding item_of
-returns-in-Some-clause-down c =
+pub put-requires-in-Some : goal.put-requires-in-Some
+put-requires-in-Some c =
     let a = c.args in
-    item_put a.out.now _ a.at c.kind.result c.value.result (omega arith) (c.put.ensures ∙ ap (placed (set a.out.now a.at c.kind.result) (a.at + 1)) (c.to_le_bytes.ensures ∙ to_eight c.value.result))
-    ∙ ap₂ (λ (k v : ℕ). placed a.out.now a.at (bytes 9 (k + 256 * v))) c.kind.ensures c.value.ensures
-    ∙ ap (λ (w : Option code.Setting). placed a.out.now a.at (slot_bytes w)) (sym c.in-Some.is)
+    room_next _ c.put.ensures (room_as a.out.now (slot_laid a.self c.in-Some.setting _ _ _ c.in-Some.is (omega arith) c.kind.ensures c.value.ensures (c.to_le_bytes.ensures ∙ to_eight c.value.result)) c.requires)
+
+pub returns-in-Some : goal.returns-in-Some
+returns-in-Some c =
+    adds_as (adds_more c.put.ensures c.put-in-Some.ensures) (slot_laid c.args.self c.in-Some.setting _ _ _ c.in-Some.is (omega arith) c.kind.ensures c.value.ensures (c.to_le_bytes.ensures ∙ to_eight c.value.result))
+
+pub returns-in_default : goal.returns-in_default
+returns-in_default c = adds_as (adds_none c.args.out.now) (sym (ap slot_bytes c.in_default.is))

@@ -1,8 +1,0 @@
--- `field` meets its contract: what `hand` does, of the part and the place that showing gives. Assumes nothing.
-use Rattle.controls.specs.Controls.{field_at}
-use Rattle.showing.specs.Shown.{part_of}
-use Rattle.controls.proofs.field.Goals as goal
-
-pub returns : goal.returns
-unfolding part_of field_at
-returns c = rw (c.part-part.ensures, c.field.ensures, c.run-run.ensures) at c.hand.ensures

@@ -1,8 +1,0 @@
--- `norms` meets its contract: what `hand` does, of the part and the place that showing gives. Assumes nothing.
-use Rattle.controls.specs.Controls.{norms_at}
-use Rattle.showing.specs.Shown.{part_of}
-use Rattle.controls.proofs.norms.Goals as goal
-
-pub returns : goal.returns
-unfolding part_of norms_at
-returns c = rw (c.part-part.ensures, c.norms.ensures, c.run-run.ensures) at c.hand.ensures

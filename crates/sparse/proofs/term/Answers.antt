@@ -1,6 +1,0 @@
--- `term` meets its contract: the code has the operations of the definition, in its order. Assumes nothing.
-use Rattle.std.proofs.Common.{refl}
-use Rattle.sparse.proofs.term.Goals as goal
-
-pub returns : goal.returns
-returns c = refl
