@@ -40,7 +40,7 @@ use Rattle.work.specs.declared.Plan.{Plan}
 use Rattle.work.specs.declared.Stand.{Stand}
 use Rattle.work.specs.declared.Step.{Step}
 use Rattle.work.specs.Layout.{at_x, at_r, at_p, at_product, at_gradients, at_norms, matrix_at, vectors_at}
-use Rattle.work.specs.Memory.{Stepped, vectors_in, solved_step, solve_step, set_out_step, walked_stand, crossed_stand, start_by, begin_step, crossing_of, cross_step, next_of, step_on, front_of, work, once}
+use Rattle.work.specs.Memory.{Stepped, vectors_in, solved_step, solve_step, set_out_step, walked_stand, crossed_stand, start_by, begin_step, crossing_from, crossing_of, cross_step, next_of, step_on, front_of, work, once}
 use Rattle.work.specs.Ready.{Ready, Crosses, Steps, Comes}
 use Rattle.work.specs.Kinds.{SetsOut, Searchable, Steppable, Leads, gradients_put, found_in, found_by, lost_by}
 use Rattle.work.specs.StartedLaws.{set_out-same, start_is}
@@ -204,16 +204,22 @@ begin_leads plan words f s d f' o e = record {
 pub triangle_in_mesh : (plan : Plan) {words : List ℕ} {f : List Float} {u : ℕ} {d : Field} (k : ℕ) → Ready plan words → FieldStands f words (first_at plan.n plan.t) u d → k < plan.t → k < triangle_count d.mesh.triangles.now
 triangle_in_mesh plan k r st h = let e = triangles_count r.linked st.mesh in omega (arith, e, h)
 
+-- a crossing from any entry, by the gradient that stands in the front
+pub crossing_from_is : (plan : Plan) (words : List ℕ) (f : List Float) (h : Searchable plan words f) (p : Point) (k e : ℕ) {at u : ℕ} {d : Field} {g : Point} {r : Crossing} → at ≡ at_gradients plan.n plan.t → u ≡ at_x plan.n plan.t → FieldStands f words (first_at plan.n plan.t) u d
+    → g ≡ gradient_at (take (length f - at) (drop at f)) k
+    → r ≡ crossing_along rule d.mesh.vertices.now d.mesh.triangles.now d.mesh.neighbours.now (triangle_count d.mesh.triangles.now) d.values.now g plan.step p k e
+    → r ≡ crossing_from plan words f p k e
+unfolding vertices_of triangles_of neighbours_of field_of crossing
+crossing_from_is plan words f h p k e {at} {u} {d} {g} {r} ea eu st eg is =
+    let i = is ∙ crossing_stands u h.ready.linked st rule plan.step g p k e in
+    rw (eg, front_gradients plan words f h at ea, eu) at i
+
 -- the crossing of the path's triangle
 pub crossing_is : (plan : Plan) (words : List ℕ) (f : List Float) (h : Searchable plan words f) (s : Stand) {at u : ℕ} {d : Field} {g : Point} {r : Crossing} → at ≡ at_gradients plan.n plan.t → u ≡ at_x plan.n plan.t → FieldStands f words (first_at plan.n plan.t) u d
     → g ≡ gradient_at (take (length f - at) (drop at f)) s.walk.triangle
     → r ≡ crossing_along rule d.mesh.vertices.now d.mesh.triangles.now d.mesh.neighbours.now (triangle_count d.mesh.triangles.now) d.values.now g plan.step s.walk.position s.walk.triangle s.walk.edge
     → r ≡ crossing_of plan words f s
-unfolding vertices_of triangles_of neighbours_of field_of crossing
-crossing_is plan words f h s {at} {u} {d} {g} {r} ea eu st eg is =
-    let w = s.walk in
-    let i = is ∙ crossing_stands u h.ready.linked st rule plan.step g w.position w.triangle w.edge in
-    rw (eg, front_gradients plan words f h at ea, eu) at i
+crossing_is plan words f h s = crossing_from_is plan words f h s.walk.position s.walk.triangle s.walk.edge
 
 pub cross_leads : (plan : Plan) (words : List ℕ) (f : List Float) (s : Stand) (c : Crossing) (s' : Stand) → c ≡ crossing_of plan words f s → s' ≡ crossed_stand plan s c
     → Leads (cross_step plan words f s) (record { stand = s'; gives = Gives.Crossed c }) f

@@ -253,6 +253,18 @@ pub fn crossing_by(field: &Field, step: f64, g: Point, entry: Entry) -> Crossing
     pde::cross::crossing(field, RULE, step, g, entry)
 }
 
+// What crossing a triangle from an entry comes to, by the gradient that stands in the front: for whoever has no run's stand.
+pub fn crossing_of(front: &[f64], laid: &Laid, entry: Entry) -> Crossing
+    requires { Searchable laid.now.counted.plan laid.now.words.now front.now × (entry.triangle < laid.now.counted.plan.t) }
+    ensures { result ≡ Memory.crossing_from laid.now.counted.plan laid.now.words.now front.now entry.point entry.triangle entry.edge }
+{
+    let u = laid.counted.at_x();
+    let field = laid.field(front, u);
+    let at = laid.counted.at_gradients();
+    let g = pde::cross::gradient_at(&front[at..], entry.triangle);
+    crossing_by(&field, laid.counted.plan.step, g, entry)
+}
+
 // Which crossing is the last of all.
 fn is_last(made: usize, t: usize) -> bool
     requires { t < 8193 }

@@ -1,9 +1,9 @@
 -- Laws of heads and links, and the scan that makes them: from the last corner to the first. Assumes nothing.
-use Prim.Native.Nat.{ℕ, zero, suc, ◌+◌, ◌≤◌, ◌<◌}
+use Prim.Native.Nat.{ℕ, zero, suc, ◌+◌, ◌*◌, ◌/◌, ◌≤◌, ◌<◌}
 use native.Mathlib.Nat.{add-zero, min-le_right}
 use native.Mathlib.Numerals.{add-one}
 use native.Mathlib.Omega.{arith}
-use mathlib.Core.Path.{◌≡◌, refl, sym, ap, ◌∙◌}
+use mathlib.Core.Path.{◌≡◌, refl, sym, ap, subst, ◌∙◌}
 use mathlib.Core.Bool.{Bool, true, false}
 use mathlib.Core.List.{List, [], ◌∷◌, ◌++◌}
 use lib.Dec.{eqb}
@@ -28,6 +28,10 @@ below_at n (x ∷ xs) (suc i) b h = below_at n xs i b.1 (omega arith)
 pub below_more : (n : ℕ) (l : List ℕ) (j : ℕ) (rest : List ℕ) → AllBelow n l → l ≡ j ∷ rest → (j < n) × AllBelow n rest
 unfolding AllBelow
 below_more n l j rest b e = rw e at b
+
+-- as many below n as there are pairs of coordinates
+pub below_half : (m n : ℕ) (l : List ℕ) → m ≡ 2 * n → AllBelow n l → AllBelow (m / 2) l
+below_half m n l h b = subst (λ (k : ℕ). AllBelow k l) (omega (arith, h)) b
 
 -- ---- heads and links
 

@@ -1,5 +1,5 @@
 // The linear triangle (the P1 element): what its corners push on each other. Vertex numbers are words of the lent lists, and an index is widened by `as usize`, since no `From` leads from u32 to usize.
-ghost use Rattle.std.specs.Prelude.{ℕ, ◌≡◌, ◌+◌, ◌*◌, ◌<◌, length};
+ghost use Rattle.std.specs.Prelude.{ℕ, ◌≡◌, ◌+◌, ◌*◌, ◌/◌, ◌<◌, length};
 ghost use Rattle.laplace.specs.Mesh.{vertex};
 ghost use Rattle.laplace.specs.Matrix.{AllBelow};
 ghost use Rattle.laplace.specs.Assembly as Assembly;
@@ -99,7 +99,7 @@ impl Elements<'_> {
     // What the corners of a triangle push on each other.
     #[tactic(auto, unfolding(crate::specs::Element::stiff_in), using(crate::proofs::LawsCorners::below_at))]
     pub fn stiff(&self, q: Triangle) -> Option<Stiff>
-        requires { (length self.now.vertices.now ≡ 2 * length self.now.tags.now) × AllBelow (length self.now.tags.now) q }
+        requires { AllBelow (length self.now.vertices.now / 2) q }
         ensures { result ≡ Element.stiff_in self.now.flat self.now.vertices.now q }
     {
         let a = self.vertex(q[0] as usize);

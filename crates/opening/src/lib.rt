@@ -160,7 +160,11 @@ pub fn open(
 ) -> Result<Run, Refusal>
     ensures { Opens sheet.now (buffers floats.old words.old path.old) (answer_of no_run result) (buffers floats.new words.new path.new) }
 {
-    let h = sheet::check_sheet(sheet)?;
+    // No `?`: that a refused sheet is answered with its own refusal is a value here, which a wrong program changes (must-fail/open_answers_8_for_a_refused_sheet).
+    let h = match sheet::check_sheet(sheet) {
+        Ok(h) => h,
+        Err(refusal) => return Err(refusal),
+    };
     let plan = plan_of(h);
     let counted = Counted { plan };
     if counted.space().lacks(floats.len(), words.len(), path.len()) {

@@ -1,5 +1,7 @@
 pub mod Search
 pub mod SearchLaws
+pub mod SearchBy
+pub mod SearchByLaws
 pub mod Start
 pub mod Exit
 pub mod Outcome

@@ -1,4 +1,4 @@
--- The numbers of the refusals (document 01's table), and that of an outcome: 0 where nothing refused. Definitions, and that a number tells which refusal it is.
+-- The numbers of the refusals (document 01's table), and that of an outcome: 0 where nothing refused. Definitions only.
 -- Assumes nothing.
 use Rattle.std.specs.Prelude.{ℕ, Result, Ok, Err}
 use Rattle.refusal.specs.declared.Refusal.{Refusal}

@@ -50,7 +50,7 @@ fn print_first(rt: &impl Print, sheet: &[u8], count: usize) -> io::Result<()> {
 
 // So many bytes, all the same.
 fn print_same(rt: &impl Print, byte: u8, count: usize) -> io::Result<()> {
-    let sheet = [byte; printing::READ];
+    let sheet = [byte; 65537];
     print_first(rt, &sheet, count)
 }
 
@@ -83,7 +83,7 @@ fn print_counts(rt: &impl Print, n: usize, t: usize, limit: u64, room: u64) -> i
     let all = Content {
         vertices: &[0.0; 1362],
         triangles: &[0u32; 1533],
-        neighbours: &[format::NO_NEIGHBOUR; 1533],
+        neighbours: &[4294967295; 1533],
         tags: &[0u8; 681],
         settings: settings(limit, room),
     };
@@ -111,9 +111,9 @@ fn main(rt: HostRuntime) -> io::Result<()> {
     // 4,096 points, and one more
     print_counts(&rt, 0, 0, 0, 4096)?;
     print_counts(&rt, 0, 0, 0, 4097)?;
-    // 65,536 bytes, and one more: five counts of 0 and bytes left over; a count over its limit
-    print_same(&rt, 0, printing::SHEET)?;
-    print_same(&rt, 0, printing::READ)?;
-    print_same(&rt, 255, printing::SHEET)?;
-    print_same(&rt, 255, printing::READ)
+    // 65,536 bytes, and one more: five counts of 0 and bytes left over; a count over its limit. The limits stand as numbers here, so that a constant that moved is seen.
+    print_same(&rt, 0, 65536)?;
+    print_same(&rt, 0, 65537)?;
+    print_same(&rt, 255, 65536)?;
+    print_same(&rt, 255, 65537)
 }

@@ -17,6 +17,17 @@ pub struct Builder<'a> {
     pub count: usize,
 }
 
+// The elements of `from`, put at the places from `at` on. By a loop: of `copy_from_slice` between two slices of a lent buffer the compiler makes `memmove`, which the archive for C would need from outside.
+fn put_behind<T: Copy>(to: &mut [T], at: usize, from: &[T])
+    requires { at + length from.now ≤ length to.old }
+    ensures { to.new ≡ splice to.old at from.now }
+{
+    for i in 0..from.len() {
+        let k = at + i;
+        to[k] = from[i];
+    }
+}
+
 impl Builder<'_> {
     // The entries of a row, put behind the others; the row is clear then.
     fn append(&mut self, row: &mut Row)
@@ -30,8 +41,8 @@ impl Builder<'_> {
     {
         let end = self.count + row.count;
         let (values, cols) = row.entries();
-        self.values[self.count..end].copy_from_slice(values);
-        self.cols[self.count..end].copy_from_slice(cols);
+        put_behind(self.values, self.count, values);
+        put_behind(self.cols, self.count, cols);
         row.clear();
         self.count = end;
     }

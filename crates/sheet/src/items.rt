@@ -31,7 +31,7 @@ pub fn vertex(part: &[u8], i: usize) -> Point
     match items.get(i) {
         Some(item) => {
             let x = real(item.first_chunk().unwrap());
-            let y = real(item.last_chunk().unwrap());
+            let y = real(item[8..].first_chunk().unwrap());
             Point { x, y }
         }
         None => Point { x: 0.0, y: 0.0 },

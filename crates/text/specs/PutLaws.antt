@@ -19,6 +19,13 @@ printed {s} {l} {m} {at} {next} {text} p e h =
     let w : next ≤ length l = rw e (omega (arith, p.goes, p.long)) in
     record { puts = record { is = e ∙ p.is; goes = p.goes; long = ap length e ∙ p.long }; within = w; front = sym (length-take-le next l w) }
 
+-- the text in other words
+pub printed_as : {s l : List ℕ} {at next : ℕ} {text : List ℕ} (other : List ℕ) → Printed s at text next l → text ≡ other → Printed s at other next l
+printed_as {s} {l} {at} {next} {text} other p e = rw e at p
+
+pub adds_as : {s m : Output} {text : List ℕ} (other : List ℕ) → Adds s m text → text ≡ other → Adds s m other
+adds_as {s} {m} {text} other p e = rw e at p
+
 -- a part that the library writes, as a stretch
 pub put_is : (l new part : List ℕ) (a b k : ℕ) → new ≡ part → length part ≡ k → b ≡ a + k → b ≤ length l → put_mid a (b - a) l new ≡ splice l a part
 put_is l new part a b k i e s h =

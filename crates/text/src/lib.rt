@@ -77,9 +77,7 @@ pub fn put_refusal(out: &mut [u8], at: usize, refusal: Refusal) -> usize
     requires { at + 29 ≤ length out.old }
     ensures { Printed out.old at (Text.refused_text (number_of refusal)) result out.new }
 {
-    let mut output = Output { bytes: out, at };
-    output.refused(refusal);
-    output.at
+    put_refused(out, at, u64::from(refusal.number()))
 }
 
 // The same by any number.

@@ -1,10 +1,7 @@
-use borrow.Author.Rules.{rules}
-use Rattle.text.specs.PutLaws.{printed}
-use Rattle.text.specs.TextLaws.{refused_room}
+use Rattle.std.proofs.Common.{arith, ap}
+use Rattle.text.specs.Text.{refused_text}
+use Rattle.text.specs.PutLaws.{printed_as}
 use Rattle.text.proofs.put_refusal.Goals as goal
 
-pub refused-requires : goal.refused-requires
-refused-requires c = refused_room _ _ _ c.requires
-
 pub returns : goal.returns
-returns c = printed c.refused.ensures.put (search rules) (refused_room _ _ _ c.requires)
+returns c = printed_as _ c.put_refused.ensures (ap refused_text (omega (arith, c.from.ensures, c.number.ensures)))

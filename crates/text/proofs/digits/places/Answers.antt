@@ -9,5 +9,5 @@ returns-then-n-eq0 c = (sym (places_few c.args.n (omega arith)), omega arith)
 
 pub returns-else-n-eq0 : goal.returns-else-n-eq0
 returns-else-n-eq0 c =
-    let e = places_log c.ilog10.result c.args.n c.ilog10.ensures.power_le c.ilog10.ensures.next_power_gt (omega arith) in
+    let e = places_log c.ilog10.result c.args.n (omega (arith, c.ilog10.ensures.power_le)) (omega (arith, c.ilog10.ensures.next_power_gt)) (omega arith) in
     (omega (arith, e), omega (arith, c.ilog10.ensures.bound))

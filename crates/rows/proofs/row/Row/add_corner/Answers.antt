@@ -1,10 +1,11 @@
 -- By cases on whether the triangle of the corner is skipped. Assumes nothing.
 use Rattle.std.proofs.Common.{rules}
+use Rattle.laplace.proofs.LawsCorners.{below_half}
 use Rattle.laplace.proofs.LawsRow.{written_skipped, written-corner}
 use Rattle.rows.proofs.row.Row.add_corner.Goals as goal
 
 pub stiff-requires : goal.stiff-requires
-stiff-requires c = let mesh = c.requires.0.mesh in (mesh.vertices, c.triangle-q.ensures.below _ mesh.corners)
+stiff-requires c = let mesh = c.requires.0.mesh in below_half _ _ _ mesh.vertices (c.triangle-q.ensures.below _ mesh.corners)
 
 pub place_three-requires : goal.place_three-requires
 place_three-requires c = (c.requires.0, c.triangle-q.ensures.below _ c.requires.0.mesh.corners)
