@@ -53,7 +53,9 @@ pub fn advance(
     let plan = run.plan;
     let place = run.stand.place;
     let target = (place + k as usize).min(plan.farthest());
-    passes_fault(run, target, floats, words)?;
+    // a line of its own, so that a wrong program that refuses after the call was made is refused for what it has written
+    let late = passes_fault(run, target, floats, words);
+    late?;
     let stand = gate::seek(run, target, floats, words, path);
     let gain = stand.place - place;
     let ahead = gate::moved(run, stand, run.passes + gain as u64);

@@ -5,7 +5,7 @@ use Rattle.std.specs.Bool.{beq}
 use Rattle.std.specs.Float.{float_is_finite}
 use mathlib.Core.Path.{◌≡◌, refl, sym, ap, ◌∙◌}
 use mathlib.Core.Bool.{Bool, true, false}
-use lib.Ieee.{Float, nan, inf, fin, binary64, of_bits, nan_bits, lt}
+use lib.Ieee.{Float, nan, inf, fin, binary64, of_bits, of_fields, nan_bits, lt, neg}
 use lib.Ieee.Bits.{nan_bits_is}
 use Rattle.binary64.specs.Constants.{plus_zero}
 use Rattle.binary64.specs.Number.{pick}
@@ -21,6 +21,17 @@ unfolding finite float_is_finite
 finite_is nan = refl
 finite_is (inf s) = refl
 finite_is (fin s m e) = refl
+
+abbrev infinity : Float
+infinity = of_bits binary64 0x7ff0_0000_0000_0000
+
+-- which is between the infinities
+pub finite_between : (x : Float) → finite x ≡ (lt x infinity && lt (neg infinity) x)
+unfolding finite lt neg of_bits of_fields
+finite_between nan = refl
+finite_between (inf true) = refl
+finite_between (inf false) = refl
+finite_between (fin s m e) = refl
 
 pub positive_if : (x : Float) → finite x ≡ true → lt plus_zero x ≡ positive x
 unfolding positive

@@ -1,5 +1,6 @@
 -- One insertion into the first k entries of a row: where its column stands, the places moved up by one, and what is then read. Assumes nothing.
 use Prim.Native.Nat.{ℕ, zero, suc, ◌+◌, ◌-◌, ◌≤◌, ◌<◌}
+use native.Mathlib.Nat.{zero-add}
 use native.Mathlib.Numerals.{add-one}
 use native.Mathlib.Omega.{arith}
 use mathlib.Core.Path.{◌≡◌, refl, sym, ap, ◌∙◌}
@@ -8,15 +9,15 @@ use mathlib.Core.List.{List, [], ◌∷◌, ◌++◌}
 use lib.Dec.{eqb, leb, ltb}
 use lib.Ieee.{Float, nan}
 use lib.ListN.{length, take, drop, get_or, set, length-append, length-drop}
-use lib.Seq.{length-take-le}
+use lib.Seq.{take_at, drop_at, length-take-le}
 use borrow.Author.Tests.{ltb-true, ltb-false, le-leb, lt-leb, eqb-true, eqb-false}
 use Rattle.std.specs.Prelude.{Option, Some, None, Result, Ok, Err, cond, position, unwrap_or, not}
 use Rattle.std.specs.List.{copy_within, prefix_len}
 use Rattle.std.proofs.lemmas.List.{get_or-take, take-take, drop-take}
 use Rattle.binary64.specs.Arith.{◌⊕◌}
 use Rattle.binary64.specs.Number.{pick}
-use Rattle.stretch.specs.Stretch.{splice}
-use Rattle.stretch.specs.StretchLaws.{part_take, splice_part}
+use Rattle.stretch.specs.Stretch.{part, splice}
+use Rattle.stretch.specs.StretchLaws.{length_part, part_take, part_add, splice_cons, splice-append, splice_part, set-splice_in}
 use Rattle.sparse.specs.Sparse.{Entry, entry, entries}
 use Rattle.laplace.specs.Assembly.{insert}
 use Rattle.laplace.specs.Placed.{values_in, columns_in}
@@ -45,7 +46,7 @@ module _ {A : Type 0} where
   splice_front_is [] (y ∷ new) (suc m) e h = absurd (omega arith)
   splice_front_is (x ∷ l) (y ∷ new) (suc m) e h = ap (λ (z : List A). y ∷ z) (splice_front_is l new m (omega arith) (omega arith))
 
-  -- ---- a place made free at p among the first k places, and one of them replaced
+  -- ---- a place made free at p among the first k places
 
   opened : (s : List A) (p m d : ℕ) (v : A) → d ≡ suc (p + m) → p + m < length s
       → set ((take (suc p) s ++ take m (drop p s)) ++ drop d s) p v ≡ splice s 0 (take p s ++ (v ∷ take m (drop p s)))
@@ -60,20 +61,39 @@ module _ {A : Type 0} where
   opened (x ∷ s) (suc p) m zero v e h = absurd (omega arith)
   opened (x ∷ s) (suc p) m (suc d) v e h = ap (λ (z : List A). x ∷ z) (opened s p m d v (omega arith) (omega arith))
 
-  made_free : (s : List A) (k p : ℕ) (v : A) → p ≤ k → k < length s → set (copy_within s p k (p + 1)) p v ≡ splice s 0 (take p (take k s) ++ (v ∷ drop p (take k s)))
-  made_free s k p v h g =
+  moved_up : (s : List A) (k p : ℕ) (v : A) → p ≤ k → k < length s → set (copy_within s p k (p + 1)) p v ≡ splice s 0 (take p (take k s) ++ (v ∷ drop p (take k s)))
+  moved_up s k p v h g =
       let m = k - p in
       let e : k ≡ p + m = omega arith in
       let a : take p (take k s) ≡ take p s = take-take p k s h in
       let b : drop p (take k s) ≡ take m (drop p s) = ap (λ (x : ℕ). drop p (take x s)) e ∙ drop-take p m s in
       rw (a, b, add-one p) (opened s p m (suc p + m) v (omega arith) (omega arith))
 
-  replaced : (s : List A) (k p : ℕ) (v : A) → p < k → k ≤ length s → set s p v ≡ splice s 0 (set (take k s) p v)
-  unfolding splice
-  replaced [] k p v h g = absurd (omega arith)
-  replaced (x ∷ s) zero p v h g = absurd (omega arith)
-  replaced (x ∷ s) (suc k) zero v h g = ap (λ (z : List A). v ∷ z) (sym (splice_take s k))
-  replaced (x ∷ s) (suc k) (suc p) v h g = ap (λ (z : List A). x ∷ z) (replaced s k p v (omega arith) (omega arith))
+module _ {ℓ} {A : Type ℓ} where
+  -- ---- the same among the k places from `at`, by a stretch, of which what has no place is left out
+
+  pub made_free : (s : List A) (at k p : ℕ) (v : A) → p ≤ k → at + k ≤ length s
+      → set (splice s (at + p + 1) (part s (at + p) (k - p))) (at + p) v ≡ splice s at (take p (part s at k) ++ (v ∷ drop p (part s at k)))
+  made_free s at k p v h f =
+      let e : k ≡ p + (k - p) = omega arith in
+      let l = part s at p in
+      let r = part s (at + p) (k - p) in
+      let ll : length l ≡ p = length_part s at p (omega arith) in
+      let b : part s at k ≡ l ++ r = ap (λ (x : ℕ). part s at x) e ∙ part_add s at p (k - p) in
+      let t : take p (part s at k) ≡ l = ap (λ (x : List A). take p x) b ∙ take_at l r p ll in
+      let d : drop p (part s at k) ≡ r = ap (λ (x : List A). drop p x) b ∙ drop_at l r p ll in
+      ap (λ (x : ℕ). set (splice s x r) (at + p) v) (add-one (at + p))
+      ∙ sym (splice_cons s (at + p) v r)
+      ∙ rw (t, d, splice-append s at l (v ∷ r), splice_part s at p, ll)
+
+  pub replaced : (s : List A) (at k p : ℕ) (v : A) → p < k → at + k ≤ length s → set s (at + p) v ≡ splice s at (set (part s at k) p v)
+  replaced s at k p v h f =
+      let e : length (part s at k) ≡ k = length_part s at k f in
+      ap (λ (x : List A). set x (at + p) v) (sym (splice_part s at k)) ∙ set-splice_in s at (part s at k) p v (omega arith)
+
+  -- among the first k
+  replaced_front : (s : List A) (k p : ℕ) (v : A) → p < k → k ≤ length s → set s p v ≡ splice s 0 (set (take k s) p v)
+  replaced_front s k p v h g = rw (zero-add, part_take) at (replaced s 0 k p v h (omega arith))
 
 -- how many columns at the front are below j
 pub position_le : (j : ℕ) (cs : List ℕ) → position_of j cs ≤ length cs
@@ -203,7 +223,7 @@ module _ (v : List Float) (c : List ℕ) (k j : ℕ) (x : Float) (hv : k ≤ len
       let i : Repeated j x cs vs p (insert j x (entries cs vs)) = rw e (insert_repeat j x cs vs (length_in v c k hv hc) (omega arith) (rw e at gc)) in
       record {
         count = sym lc ∙ ap length (sym i.columns) ∙ length_columns (insert j x (entries cs vs));
-        values = replaced v k p (get_or v p nan ⊕ x) h hv ∙ ap (λ (l : List Float). splice v 0 l) (ap (λ (y : Float). set vs p (y ⊕ x)) (sym gv) ∙ sym i.values);
+        values = replaced_front v k p (get_or v p nan ⊕ x) h hv ∙ ap (λ (l : List Float). splice v 0 l) (ap (λ (y : Float). set vs p (y ⊕ x)) (sym gv) ∙ sym i.values);
         columns = sym (splice_take c k) ∙ ap (λ (l : List ℕ). splice c 0 l) (sym i.columns);
       }
 
@@ -240,8 +260,18 @@ module _ (v : List Float) (c : List ℕ) (k j : ℕ) (x : Float) (hv : k ≤ len
         let r = room_fresh m in
         record {
           count = add-one k ∙ sym fresh-length;
-          values = made_free v k p x within r.0 ∙ ap (λ (l : List Float). splice v 0 l) (sym i.values);
-          columns = made_free c k p j within r.1 ∙ ap (λ (l : List ℕ). splice c 0 l) (sym i.columns);
+          values = moved_up v k p x within r.0 ∙ ap (λ (l : List Float). splice v 0 l) (sym i.values);
+          columns = moved_up c k p j within r.1 ∙ ap (λ (l : List ℕ). splice c 0 l) (sym i.columns);
+        }
+
+    -- by a stretch no room is asked for: what has no place is left out
+    fresh-spliced : Written v c (set (splice v (p + 1) (part v p (k - p))) p x) (set (splice c (p + 1) (part c p (k - p))) p j) (k + 1) (insert j x (entries_in v c k))
+    fresh-spliced =
+        let i = fresh in
+        record {
+          count = add-one k ∙ sym fresh-length;
+          values = rw (zero-add, part_take) at (made_free v 0 k p x within (omega arith)) ∙ ap (λ (l : List Float). splice v 0 l) (sym i.values);
+          columns = rw (zero-add, part_take) at (made_free c 0 k p j within (omega arith)) ∙ ap (λ (l : List ℕ). splice c 0 l) (sym i.columns);
         }
 
 -- the same, by what was found
@@ -258,14 +288,18 @@ module _ (v : List Float) (c : List ℕ) (k j : ℕ) (x : Float) (hv : k ≤ len
     pub written_repeat : Written v c (set v p (get_or v p nan ⊕ x)) c k (insert j x (entries_in v c k))
     written_repeat = repeat_written v c k j x hv hc p stands.0 stands.1 stands.2
 
-  module _ (e : o ≡ Err p) (m : Room v c (insert j x (entries_in v c k))) where
+  module _ (e : o ≡ Err p) where
     goes : (p ≡ position_of j (take k c)) × (p < k → get_or c p 0 ≡ j → ⊥)
     unfolding Finds
     goes = rw e at f
 
-    -- there is room to move up by one
-    pub fresh_room : (p ≤ k) × (k < length v) × (k < length c)
-    fresh_room = let r = room_fresh v c k j x hv hc p goes.0 goes.1 m in (within v c k j x hv hc p goes.0, r.0, r.1)
+    pub spliced-fresh : Written v c (set (splice v (p + 1) (part v p (k - p))) p x) (set (splice c (p + 1) (part c p (k - p))) p j) (k + 1) (insert j x (entries_in v c k))
+    spliced-fresh = fresh-spliced v c k j x hv hc p goes.0 goes.1
 
-    pub written-fresh : Written v c (set (copy_within v p k (p + 1)) p x) (set (copy_within c p k (p + 1)) p j) (k + 1) (insert j x (entries_in v c k))
-    written-fresh = fresh-written v c k j x hv hc p goes.0 goes.1 m
+    module _ (m : Room v c (insert j x (entries_in v c k))) where
+      -- there is room to move up by one
+      pub fresh_room : (p ≤ k) × (k < length v) × (k < length c)
+      fresh_room = let r = room_fresh v c k j x hv hc p goes.0 goes.1 m in (within v c k j x hv hc p goes.0, r.0, r.1)
+
+      pub written-fresh : Written v c (set (copy_within v p k (p + 1)) p x) (set (copy_within c p k (p + 1)) p j) (k + 1) (insert j x (entries_in v c k))
+      written-fresh = fresh-written v c k j x hv hc p goes.0 goes.1 m

@@ -25,12 +25,12 @@ use Rattle.format.specs.RefusalLaws.{pick_true, pick_false, then_first, then_sec
 use Rattle.format.specs.TriesLaws.{refused}
 use Rattle.sections.specs.Steps.{Read, Refused, items_by, items_read}
 
+pub refused_number : (k : ℕ) (st : Settings) → (k ≡ 0 → ⊥) → Refused k ≡ items_by k st
+refused_number zero st h = absurd (h refl)
+refused_number (suc k) st h = refl
+
 pub refused_by : (e : Refusal) {a : ℕ} (st : Settings) → number_of e ≡ a → Refused (number_of e) ≡ items_by a st
-refused_by e {a} st p = go (number_of e) (refused e) ∙ ap (λ (n : ℕ). items_by n st) p
-  where
-    go : (k : ℕ) → (k ≡ 0 → ⊥) → Refused k ≡ items_by k st
-    go zero h = absurd (h refl)
-    go (suc k) h = refl
+refused_by e {a} st p = refused_number (number_of e) st (refused e) ∙ ap (λ (n : ℕ). items_by n st) p
 
 pub none_is : (l : Option ℕ) (t s x y : Option Float) (r : Option ℕ) → l ≡ None → t ≡ None → s ≡ None → x ≡ None → y ≡ None → r ≡ None
     → ◌≡◌ {A = Settings} (record { limit = l; tolerance = t; step = s; x = x; y = y; room = r }) no_settings

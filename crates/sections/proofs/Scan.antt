@@ -1,5 +1,6 @@
 -- The numbers of a section, each tested in turn through its pieces behind the count. For any test and any width. Assumes nothing.
 use Prim.Native.Nat.{ℕ, zero, suc, ◌+◌, ◌*◌, ◌/◌, ◌≤◌, ◌<◌}
+use native.Mathlib.Nat.{one-mul}
 use native.Mathlib.Omega.{arith}
 use mathlib.Core.Path.{◌≡◌, refl, sym, ap, ap₂, ◌∙◌}
 use mathlib.Core.List.{List, [], ◌∷◌, map}
@@ -16,6 +17,7 @@ use Rattle.format.specs.Bytes.{number, numbers}
 use Rattle.format.specs.Refusal.{◌then◌, each, over, unlike, coordinate_fault, vertex_fault, neighbour_fault, tag_fault}
 use Rattle.format.specs.Content.{max_vertices, max_triangles}
 use Rattle.format.specs.Sheet.{count, head_fault, vertices_fault, triangles_fault, neighbours_fault, tags_fault}
+use Rattle.format.specs.BytesLaws.{number-drop}
 use Rattle.format.specs.RefusalLaws.{each_map}
 use Rattle.format.specs.SectionLaws.{head_sound}
 use Rattle.format.specs.Tries.{Tries}
@@ -69,10 +71,12 @@ patterns xs = each_map coordinate_fault (of_bits binary64) xs
 
 -- ---- a number of one byte
 
-number-one : (s : List ℕ) → get_or s 0 0 ≡ number 1 s
+pub number-one : (s : List ℕ) (i : ℕ) → get_or s i 0 ≡ number 1 (drop (1 * i) s)
 unfolding number
-number-one [] = refl
-number-one (b ∷ s) = omega arith
+number-one s i = sym (ap (λ (n : ℕ). number 1 (drop n s)) (one-mul i) ∙ number-drop 0 i s ∙ omega arith)
+
+number-first : (s : List ℕ) → get_or s 0 0 ≡ number 1 s
+number-first s = number-one s 0
 
 -- ---- the four sections, each behind its head
 
@@ -100,4 +104,4 @@ module _ (s items : List ℕ) (part : List (List ℕ)) (Answers : List ℕ → R
   pub tags_tested : (n : ℕ) → Tells tag_fault (λ (x : List ℕ). get_or x 0 0) → 0 ≡ head_fault (unlike n) 1 s → items ≡ take (1 * count s) (drop 4 s)
       → part ≡ first_chunks 1 (length items / 1) items → Tries Answers part r → fault r ≡ tags_fault n s
   unfolding tags_fault
-  tags_tested n = tested 1 (λ (x : List ℕ). get_or x 0 0) (omega arith) number-one (unlike n) tag_fault 1 (count s) s items part Answers r (omega arith)
+  tags_tested n = tested 1 (λ (x : List ℕ). get_or x 0 0) (omega arith) number-first (unlike n) tag_fault 1 (count s) s items part Answers r (omega arith)

@@ -25,12 +25,12 @@ use Rattle.sheet.specs.Write.{Written, Bytes, Refused, write_refusal, written_by
 
 -- ---- a sheet that is checked
 
+pub refused_number : (k : ℕ) {a : ℕ} (h : Header) → k ≡ a → (k ≡ 0 → ⊥) → answer.Refused k ≡ checked_by a h
+refused_number zero h e z = absurd (z refl)
+refused_number (suc k) h e z = ap (λ (n : ℕ). checked_by n h) e
+
 pub refused : (e : Refusal) {a : ℕ} (h : Header) → number_of e ≡ a → answer.Refused (number_of e) ≡ checked_by a h
-refused e {a} h p = go (number_of e) (tries.refused e) ∙ ap (λ (n : ℕ). checked_by n h) p
-  where
-    go : (k : ℕ) → (k ≡ 0 → ⊥) → answer.Refused k ≡ checked_by k h
-    go zero z = absurd (z refl)
-    go (suc k) z = refl
+refused e h p = refused_number (number_of e) h p (tries.refused e)
 
 -- ---- a sheet that is written
 
@@ -47,13 +47,13 @@ by c out k e r last p q = record {
   left = q ∙ ap (λ (n : ℕ). buffer_by n (bytes_of c) out) (sym e);
 }
 
-pub write_refused : (c : Content) (out last : List ℕ) (e : Refusal) → number_of e ≡ refusal_of c → last ≡ out → Writes c out (Refused (number_of e)) last
+pub write_refused_number : (c : Content) (out last : List ℕ) (k : ℕ) → k ≡ refusal_of c → (k ≡ 0 → ⊥) → last ≡ out → Writes c out (Refused k) last
 unfolding write_refusal
-write_refused c out last e p q = go (number_of e) p (tries.refused e)
-  where
-    go : (k : ℕ) → k ≡ refusal_of c → (k ≡ 0 → ⊥) → Writes c out (Refused k) last
-    go zero p z = absurd (z refl)
-    go (suc k) p z = by c out (suc k) (ap (λ (n : ℕ). n then pick (leb (length (bytes_of c)) (length out)) 0 8) (sym p)) (Refused (suc k)) last refl q
+write_refused_number c out last zero p z q = absurd (z refl)
+write_refused_number c out last (suc k) p z q = by c out (suc k) (ap (λ (n : ℕ). n then pick (leb (length (bytes_of c)) (length out)) 0 8) (sym p)) (Refused (suc k)) last refl q
+
+pub write_refused : (c : Content) (out last : List ℕ) (e : Refusal) → number_of e ≡ refusal_of c → last ≡ out → Writes c out (Refused (number_of e)) last
+write_refused c out last e p q = write_refused_number c out last (number_of e) p (tries.refused e) q
 
 pub write_short : (c : Content) (out last : List ℕ) → 0 ≡ refusal_of c → length out < length (bytes_of c) → last ≡ out → Writes c out (Refused 8) last
 unfolding write_refusal

@@ -1,5 +1,6 @@
 -- The whole check: its steps are the links of `fault_of`, its places those of the sections, and its answer that of `parse`. Assumes nothing.
 use Prim.Native.Nat.{ℕ, zero, suc}
+use native.Mathlib.Omega.{arith}
 use mathlib.Core.Path.{◌≡◌, refl, sym, ap, ap₂, ◌∙◌}
 use mathlib.Core.List.{List, map}
 use borrow.Author.Tests.{eq-eqb, ne_eqb}
@@ -58,9 +59,11 @@ pub check_mesh : (b : List ℕ) (e : Refusal) → number_of e ≡ mesh_fault b �
 check_mesh b e p = answers.refused e (header_of (content_of b)) (fault_first e _ p ∙ sym (fault_steps b)) ∙ sym (checked_by_lem b)
 
 -- what section 5 answers
-items_refused : (k a : ℕ) (st : Settings) → steps.Refused k ≡ items_by a st → k ≡ a
-items_refused k zero st e = cc
-items_refused k (suc a) st e = cc
+items_refused : (k a : ℕ) (st : Settings) → steps.Refused k ≡ items_by a st → (k ≡ a) × (k ≡ 0 → ⊥)
+items_refused k zero st e = (cc, λ z. (let y : ◌≡◌ {A = ℕ} 0 1 = cc in omega arith))
+items_refused k (suc a) st e =
+    let f : k ≡ suc a = cc in
+    (f, λ z. (let y : suc a ≡ 0 = sym f ∙ z in omega arith))
 
 pub record ItemsRead (st : Settings) (a : ℕ) (st' : Settings) : Type 0 where
   pub clean : a ≡ 0
@@ -73,7 +76,7 @@ items_read_lem (suc a) st st' e = record { clean = cc; settings = cc }
 pub check_settings : (b : List ℕ) (x : Refusal) → 0 ≡ mesh_fault b → steps.Refused (number_of x) ≡ settings_read (from5 b) → Refused (number_of x) ≡ checked_of (parse b)
 unfolding settings_read
 check_settings b x z p =
-    answers.refused x (header_of (content_of b)) (fault_second _ z (fault_first x _ (items_refused _ _ _ p)) ∙ sym (fault_steps b)) ∙ sym (checked_by_lem b)
+    answers.refused x (header_of (content_of b)) (fault_second _ z (fault_first x _ (items_refused _ _ _ p).0) ∙ sym (fault_steps b)) ∙ sym (checked_by_lem b)
 
 pub check_last : (b : List ℕ) (n t : ℕ) (st : Settings) (r : Checked) → 0 ≡ mesh_fault b → n ≡ number 4 b → count (from2 b) ≡ t → steps.Read st ≡ settings_read (from5 b)
     → r ≡ ended n t st (leftover b) → r ≡ checked_of (parse b)

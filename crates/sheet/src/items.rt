@@ -50,6 +50,8 @@ pub fn coordinate(part: &[u8], k: usize) -> f64
 }
 
 // The number at i, from section 2: corner i % 3 of triangle i / 3.
+// The definition is unfolded, so that a wrong program that answers 0 too early is refused for the number.
+#[tactic(auto, unfolding(crate::specs::Items::whole_in))]
 pub fn corner(part: &[u8], i: usize) -> u32
     ensures { result ≡ whole_in part.now i }
 {

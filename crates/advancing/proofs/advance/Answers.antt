@@ -20,8 +20,8 @@ farthest-requires c =
     let i = admitted a.run (buffers a.floats.now a.words.now a.path.now) c.in_ok-held_fault.ensures in
     (i.ready.t_most, i.ready.limit-most)
 
-pub passes_fault-requires : goal.passes_fault-requires
-passes_fault-requires c =
+pub passes_fault-late-requires : goal.passes_fault-late-requires
+passes_fault-late-requires c =
     let a = c.args in
     let i = admitted a.run (buffers a.floats.now a.words.now a.path.now) c.in_ok-held_fault.ensures in
     let e : _ = c.min-target.ensures in
@@ -29,11 +29,11 @@ passes_fault-requires c =
     let h : _ = i.place_in in
     (counts_of _ _ i c.min-target.result (omega arith) (omega arith), omega arith)
 
-pub returns-in_err-passes_fault : goal.returns-in_err-passes_fault
-returns-in_err-passes_fault c =
+pub returns-in_err-late : goal.returns-in_err-late
+returns-in_err-late c =
     let a = c.args in
     advance_refused a.run (buffers a.floats.now a.words.now a.path.now) c.in_ok-held_fault.ensures a.k c.min-target.result (omega (arith, c.min-target.ensures, c.farthest.ensures))
-    _ _ c.from_residual-in_err-passes_fault.ensures.1 c.in_err-passes_fault.ensures
+    _ _ c.from_residual-in_err-late.ensures.1 c.in_err-late.ensures
 
 pub seek-stand-requires : goal.seek-stand-requires
 seek-stand-requires c =
@@ -51,11 +51,11 @@ pub overflow_add-run : goal.overflow_add-run
 overflow_add-run c =
     let a = c.args in
     let h : _ = advance_fits a.run (buffers a.floats.now a.words.now a.path.now) c.in_ok-held_fault.ensures a.k c.min-target.result (omega (arith, c.min-target.ensures, c.farthest.ensures))
-    _ _ _ c.seek-stand.ensures c.in_ok-passes_fault.ensures in
+    _ _ _ c.seek-stand.ensures c.in_ok-late.ensures in
     omega arith
 
 pub returns : goal.returns
 returns c =
     let a = c.args in
     advance_done a.run (buffers a.floats.now a.words.now a.path.now) c.in_ok-held_fault.ensures a.k c.min-target.result (omega (arith, c.min-target.ensures, c.farthest.ensures))
-    _ _ _ c.seek-stand.ensures _ c.moved-ahead.ensures c.in_ok-passes_fault.ensures
+    _ _ _ c.seek-stand.ensures _ c.moved-ahead.ensures c.in_ok-late.ensures

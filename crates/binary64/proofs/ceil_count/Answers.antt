@@ -21,12 +21,12 @@ overflow_add-result c = let m = more c in record { fits = omega (arith, m.0) }
 pub returns-then-back-x : goal.returns-then-back-x
 returns-then-back-x c = (more c).1
 
-pub returns-else-back-x : goal.returns-else-back-x
-returns-else-back-x c =
+pub returns-then-x-2 : goal.returns-then-x-2
+returns-then-x-2 c =
     ceil_same _ _ _ (T_from_true _ c.well_formed.0.1) c.if-x.true c.if-x-2.true c.truncating_f64_to_u64-whole.ensures c.nearest_usize_to_f64-back.ensures c.if-back-x.false
 
-pub returns-else-x-2 : goal.returns-else-x-2
-returns-else-x-2 c = ceil_all _ c.if-x.true c.if-x-2.false
+pub returns-then-x : goal.returns-then-x
+returns-then-x c = ceil_all _ c.if-x.true c.if-x-2.false
 
-pub returns-else-x : goal.returns-else-x
-returns-else-x c = ceil_none _ c.if-x.false
+pub returns : goal.returns
+returns c = ceil_none _ c.if-x.false
