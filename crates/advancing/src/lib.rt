@@ -53,7 +53,7 @@ pub fn advance(
     let plan = run.plan;
     let place = run.stand.place;
     let target = (place + k as usize).min(plan.farthest());
-    // a line of its own, so that a wrong program that refuses after the call was made is refused for what it has written
+    // the test and its `?` apart, so that a wrong program in which the `?` comes too late fails for what it has written
     let late = passes_fault(run, target, floats, words);
     late?;
     let stand = gate::seek(run, target, floats, words, path);

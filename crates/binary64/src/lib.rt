@@ -36,7 +36,7 @@ pub fn at_least(floor: f64, x: f64) -> f64
 pub fn ceil_count(x: f64) -> usize
     ensures { result ≡ ceil_count x }
 {
-    // the tests in this order: the one with 2^64 first takes 1.05 to 1.1 times as long; by `return`: the value of an `if` takes 1.3 to 1.4 times as long; `as`, since no `From` leads from u64 to usize
+    // With the test for 2^64 first it takes 1.05 to 1.1 times as long, with the value of an `if` in place of `return` 1.3 to 1.4 times. `as`, since no `From` leads from u64 to usize.
     if x > 0.0 {
         if x < 18446744073709551616.0 {
             let whole = std::num::truncating_f64_to_u64(x) as usize;

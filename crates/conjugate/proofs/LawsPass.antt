@@ -38,7 +38,7 @@ module _ (a : List (List Entry)) (x r p : List Float) (tiny tolerance rs pap : F
     next_is = rw (pap-is, q-is) at st.sum_is
 
     module _ (goes_on : lt (abs_of pap) tiny ≡ false) where
-      reaches : lt (root next) tolerance ≡ true → Passes a tiny tolerance (solve x r p rs) x' r' p (Reached (root next))
+      pub reaches : lt (root next) tolerance ≡ true → Passes a tiny tolerance (solve x r p rs) x' r' p (Reached (root next))
       unfolding answer_of
       reaches k =
           let s : Solve = solve x r p rs in
@@ -46,7 +46,7 @@ module _ (a : List (List Entry)) (x r p : List Float) (tiny tolerance rs pap : F
           let t : pass tiny a tolerance s ≡ reached (next_x a s) (next_r a s) (root (next_sum a s)) = pass_reached tiny a tolerance s (rw pap-is at goes_on) (rw next_is at k) in
           rw t (record { said = ap Reached e; x_is = x-is; r_is = r-is; p_is = refl })
 
-      moves : lt (root next) tolerance ≡ false → Passes a tiny tolerance (solve x r p rs) x' r' (zip_with (plus (next ⊘ rs)) r' p) (Moved next (root next))
+      pub moves : lt (root next) tolerance ≡ false → Passes a tiny tolerance (solve x r p rs) x' r' (zip_with (plus (next ⊘ rs)) r' p) (Moved next (root next))
       unfolding answer_of
       moves k =
           let s : Solve = solve x r p rs in

@@ -22,10 +22,10 @@ finite_is nan = refl
 finite_is (inf s) = refl
 finite_is (fin s m e) = refl
 
-abbrev infinity : Float
+abbrev pub infinity : Float
 infinity = of_bits binary64 0x7ff0_0000_0000_0000
 
--- which is between the infinities
+-- a finite number is between the infinities
 pub finite_between : (x : Float) → finite x ≡ (lt x infinity && lt (neg infinity) x)
 unfolding finite lt neg of_bits of_fields
 finite_between nan = refl

@@ -25,17 +25,23 @@ fold-none_or_below t good (w ∷ ws) =
 -- ---- what refuses any call: each test's answer where those before it passed
 
 module _ (r : Run) (b : Buffers) where
-  pub held_counts : (e : Refusal) → number_of e ≡ counts_fault r.plan → number_of e ≡ held_fault r b
+  pub held_counts_number : (k : ℕ) → k ≡ counts_fault r.plan → (k ≡ 0 → ⊥) → k ≡ held_fault r b
   unfolding held_fault
-  held_counts e h = h ∙ sym (then_first (counts_fault r.plan) _ (λ z. refuses_some e (h ∙ z)))
+  held_counts_number k e h = e ∙ sym (then_first (counts_fault r.plan) _ (λ z. h (e ∙ z)))
+
+  pub held_counts : (e : Refusal) → number_of e ≡ counts_fault r.plan → number_of e ≡ held_fault r b
+  held_counts e h = held_counts_number (number_of e) h (refuses_some e)
 
   -- the other tests are of the plan that the first one handed out
   module _ (p : Plan) (same : p ≡ r.plan) (passed : 0 ≡ counts_fault r.plan) where
-    pub held-space : (e : Refusal) → number_of e ≡ space_fault p b → number_of e ≡ held_fault r b
+    pub held-space_number : (k : ℕ) → k ≡ space_fault p b → (k ≡ 0 → ⊥) → k ≡ held_fault r b
     unfolding held_fault
-    held-space e h =
-        let g : number_of e ≡ space_fault r.plan b = rw same at h in
-        g ∙ sym (then_second (counts_fault r.plan) _ (sym passed) ∙ then_first (space_fault r.plan b) _ (λ y. refuses_some e (g ∙ y)))
+    held-space_number k f h =
+        let g : k ≡ space_fault r.plan b = rw same at f in
+        g ∙ sym (then_second (counts_fault r.plan) _ (sym passed) ∙ then_first (space_fault r.plan b) _ (λ y. h (g ∙ y)))
+
+    pub held-space : (e : Refusal) → number_of e ≡ space_fault p b → number_of e ≡ held_fault r b
+    held-space e h = held-space_number (number_of e) h (refuses_some e)
 
     pub held_sound : (s m w t : Bool) → 0 ≡ space_fault p b → s ≡ stand_sound p r.stand → m ≡ mark_sound p r.mark → w ≡ words_sound p b.words → (s && (m && w)) ≡ t → unless10 t ≡ held_fault r b
     unfolding held_fault

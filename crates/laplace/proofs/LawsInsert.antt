@@ -70,7 +70,7 @@ module _ {A : Type 0} where
       rw (a, b, add-one p) (opened s p m (suc p + m) v (omega arith) (omega arith))
 
 module _ {ℓ} {A : Type ℓ} where
-  -- ---- the same among the k places from `at`, by a stretch, of which what has no place is left out
+  -- ---- the same among the k places from `at`: what stands behind p is written one place on as a stretch, as far as the list goes
 
   pub made_free : (s : List A) (at k p : ℕ) (v : A) → p ≤ k → at + k ≤ length s
       → set (splice s (at + p + 1) (part s (at + p) (k - p))) (at + p) v ≡ splice s at (take p (part s at k) ++ (v ∷ drop p (part s at k)))
@@ -264,7 +264,7 @@ module _ (v : List Float) (c : List ℕ) (k j : ℕ) (x : Float) (hv : k ≤ len
           columns = moved_up c k p j within r.1 ∙ ap (λ (l : List ℕ). splice c 0 l) (sym i.columns);
         }
 
-    -- by a stretch no room is asked for: what has no place is left out
+    -- written as a stretch, it asks for no room
     fresh-spliced : Written v c (set (splice v (p + 1) (part v p (k - p))) p x) (set (splice c (p + 1) (part c p (k - p))) p j) (k + 1) (insert j x (entries_in v c k))
     fresh-spliced =
         let i = fresh in

@@ -27,7 +27,7 @@ pub fn flagged(wholes: &[u64]) -> bool
 // The parts of a record; specs/Numbers.antt says which number each place holds. Methods, and no `From`: five parts are read of the same lists, two of them options, and what is read is a record only where the lists are `flagged`.
 // No `TryFrom` that tests this: what refuses a record comes before its flags (`held_fault` of controls), so it is read with any flags.
 impl Lists<'_> {
-    // Not by `given`, here and in `mark`: a call that is refused early takes 1.4 times as long where what is absent is read too.
+    // Not by `given`, here and in `mark`: what is absent is not read, which a call that is refused early would pay for.
     fn start(&self) -> Option<Point>
         ensures { result ≡ Numbers.start_from (listed_in self.now) }
     {

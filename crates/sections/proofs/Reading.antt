@@ -123,10 +123,13 @@ module _ (items : List (List ℕ)) where
     rising : last < kind → in_turn 0 (map (number 9) items) ≡ (setting_fault (setting_of kind value) then in_turn kind (drop (i + 1) (map (number 9) items)))
     rising l = in_turn_lem ∙ then_second _ (pick_true 0 5 (lt-ltb last kind l))
 
-    pub read-fault : (x : Refusal) → last < kind → number_of x ≡ setting_fault (setting_of kind value) → Refused (number_of x) ≡ items_read (map (number 9) items)
+    pub read-fault_number : (k : ℕ) → last < kind → k ≡ setting_fault (setting_of kind value) → (k ≡ 0 → ⊥) → Refused k ≡ items_read (map (number 9) items)
     unfolding items_read
-    read-fault x l q =
-        refused_by x _ refl ∙ ap (λ (n : ℕ). items_by n (gathered no_settings (map item_setting (map (number 9) items)))) (sym (rising l ∙ then_first _ (λ y. refused x (q ∙ y)) ∙ sym q))
+    read-fault_number k l q z =
+        refused_number k _ z ∙ ap (λ (n : ℕ). items_by n (gathered no_settings (map item_setting (map (number 9) items)))) (sym (rising l ∙ then_first _ (λ y. z (q ∙ y)) ∙ sym q))
+
+    pub read-fault : (x : Refusal) → last < kind → number_of x ≡ setting_fault (setting_of kind value) → Refused (number_of x) ≡ items_read (map (number 9) items)
+    read-fault x l q = read-fault_number (number_of x) l q (refused x)
 
     pub read_more : (x : Setting) (st' : Settings) → last < kind → x ≡ setting_of kind value → 0 ≡ setting_fault x → st' ≡ adding st x → Reading items kind st' (i + 1)
     unfolding gathered

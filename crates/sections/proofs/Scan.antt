@@ -3,7 +3,7 @@ use Prim.Native.Nat.{ℕ, zero, suc, ◌+◌, ◌*◌, ◌/◌, ◌≤◌, ◌<�
 use native.Mathlib.Nat.{one-mul}
 use native.Mathlib.Omega.{arith}
 use mathlib.Core.Path.{◌≡◌, refl, sym, ap, ap₂, ◌∙◌}
-use mathlib.Core.List.{List, [], ◌∷◌, map}
+use mathlib.Core.List.{List, ◌∷◌, map}
 use lib.ListN.{length, get_or, take, drop, length-drop}
 use Rattle.std.proofs.lemmas.List.{take-take, drop-take, length-take-le}
 use Rattle.std.proofs.Math.Nat.{mul-div_cancel_left}
@@ -63,10 +63,10 @@ tested w read z same rule f size k s items part Answers r m tells h i e t =
 
 -- ---- a coordinate by its pattern
 
-abbrev pattern_fault : ℕ → ℕ
+abbrev pub pattern_fault : ℕ → ℕ
 pattern_fault x = coordinate_fault (of_bits binary64 x)
 
-patterns : (xs : List ℕ) → each coordinate_fault (map (of_bits binary64) xs) ≡ each pattern_fault xs
+pub patterns : (xs : List ℕ) → each coordinate_fault (map (of_bits binary64) xs) ≡ each pattern_fault xs
 patterns xs = each_map coordinate_fault (of_bits binary64) xs
 
 -- ---- a number of one byte
